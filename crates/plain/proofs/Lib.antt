@@ -1,0 +1,16 @@
+pub mod Members
+pub mod Reaching
+pub mod WorthLocal
+pub mod FixedPoint
+pub mod Changes
+pub mod Numbers
+pub mod Copying
+pub mod CopyingBoxes
+pub mod Inserting
+pub mod Gaps
+pub mod Moving
+pub mod Example
+pub mod EightBytes
+pub mod Parts
+pub mod Reading
+pub mod Stops

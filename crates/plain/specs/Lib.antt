@@ -1,0 +1,9 @@
+pub mod Term
+pub mod Sheet
+pub mod Commands
+pub mod Device
+pub mod Run
+pub mod Promise
+pub mod Read
+pub mod Laws
+pub mod Example
