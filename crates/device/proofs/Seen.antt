@@ -17,12 +17,6 @@ use Rattle.plain.proofs.Stops.{length-set, at-other, seen-length, seen-store, s
 use Rattle.device.specs.declared.store.Store.{Store}
 use Rattle.device.specs.Stores.{store-of, stores-of}
 
-pub line-is : (ls : List Line) (k : ℕ) (p : Line) → k < length ls → p ≡ getD ls k p → p ≡ line-at ls k
-unfolding line-at
-line-is [] k p h e = absurd (omega arith)
-line-is (q ∷ qs) zero p h e = e
-line-is (q ∷ qs) (suc k) p h e = line-is qs k p (omega arith) e
-
 pub no-line : (ls : List Line) (k : ℕ) → length ls ≤ k → [] ≡ line-at ls k
 unfolding line-at
 no-line [] k h = refl

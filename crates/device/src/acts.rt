@@ -1,11 +1,13 @@
 // What can be done to a device: reading, storing and settling a line, and a power failure.
 ghost use mathlib.Core.Bool.{cond, true};
+ghost use mathlib.Core.List.{[]};
 ghost use mathlib.Core.Path.{_≡_};
 ghost use lib.ListN.{length, take};
 ghost use Rattle.device.specs.Model.{device-of};
 ghost use Rattle.device.specs.Stores.{stores-of};
 ghost use Rattle.plain.specs.Device.{fresh, left, line-at, of-others, read-line, set-line, settled, so-many-of, stopped, storing};
 ghost use Rattle.std.specs.Of.Vec.{vec-items};
+ghost use Rattle.std.specs.Options.{Cases};
 ghost use Rattle.std.specs.Results.{isOk};
 ghost use Rattle.std.specs.Vec.{made};
 use crate::memory::Device;
@@ -85,13 +87,13 @@ impl Device {
         self.lines.len()
     }
 
-    // What whoever reads sees; past the last line, no bytes.
-    pub fn read(&self, k: u64) -> &[u8]
-        ensures { λ r. ⌜ now r ≡ read-line (device-of (now (self .entry))) k ⌝ }
+    // What whoever reads sees; past the last line, nothing.
+    pub fn read(&self, k: u64) -> Option<[u8; 64]>
+        ensures { λ r. ⌜ Cases r (read-line (device-of (now (self .entry))) k ≡ []) (λ p. read-line (device-of (now (self .entry))) k ≡ p) ⌝ }
     {
         match self.seen.get(k as usize) {
-            Some(line) => line,
-            None => &[],
+            Some(line) => Some(*line),
+            None => None,
         }
     }
 

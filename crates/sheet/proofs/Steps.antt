@@ -3,10 +3,11 @@ use mathlib.Core.Path.{_≡_, refl, sym, ap, _∙_}
 use mathlib.Core.Bool.{Bool, true, false}
 use mathlib.Core.List.{List, [], _∷_}
 use mathlib.Core.Logic.{_≢_, _⊎_, inl, inr}
-use Prim.Native.Nat.{ℕ, zero, suc}
+use Prim.Native.Nat.{ℕ, zero, suc, _≤_}
+use native.Mathlib.Omega.{arith}
 use lib.ListN.{length, take}
 use denote.Ref.{RefT}
-use Rattle.std.proofs.shelf.Tests.{ne-eqb}
+use Rattle.std.proofs.shelf.Tests.{eq-eqb, ne-eqb, le-leb}
 use Rattle.std.specs.declared.option.Option.{Option}
 use Rattle.std.specs.declared.option.Option.the-variants.{Some, None}
 use Rattle.std.specs.declared.result.Result.{Result}
@@ -27,7 +28,8 @@ use Rattle.sheet.specs.declared.event.Event as event
 use Rattle.sheet.specs.declared.event.Event.the-variants as variants
 use Rattle.sheet.specs.Events.{heard}
 use Rattle.sheet.specs.Own.{answer, refusal-by, refusal-of}
-use Rattle.sheet.specs.Entry.{own, from-eight, event-of, Act-told, Step-says}
+use Rattle.sheet.specs.Entry.{own, from-eight, event-of, Act-told, Step-says, step-fits}
+use Rattle.sheet.specs.Stores.{Stores-lines}
 
 pub length-many : (n x : ℕ) → length (so-many-of n x) ≡ n
 unfolding so-many-of
@@ -85,3 +87,16 @@ pub stray : (ev : event.Event) (k : ℕ) (out : List ℕ) → ((b : RefT (List �
 unfolding Act-told
 stray ev k out (inl h) e = rw (h .1, e) (refl, refl)
 stray ev k out (inr h) e = rw (h, e) (refl, refl)
+
+-- it stores nothing yet
+pub stores-lines : Stores-lines
+unfolding Stores-lines own
+stores-lines m (on n) k p e = let z : _≡_ {A = ℕ} 0 1 = cc in absurd (omega arith)
+stores-lines m (said text) k p e = let z : _≡_ {A = ℕ} 0 1 = cc in absurd (omega arith)
+stores-lines m (line q) k p e = let z : _≡_ {A = ℕ} 0 1 = cc in absurd (omega arith)
+stores-lines m next k p e = let z : _≡_ {A = ℕ} 0 1 = cc in absurd (omega arith)
+
+-- memory of the engine's size, a kind of event and a row that is long enough
+pub fits-so : (m : List ℕ) (k : ℕ) (bs out : List ℕ) → length m ≡ 262144 → k ≤ 3 → 131072 ≤ length out → step-fits m k bs out ≡ true
+unfolding step-fits
+fits-so m k bs out a b c = rw (length-start, eq-eqb (length m) 262144 a, le-leb k 3 b, le-leb 131072 (length out) c)

@@ -2,3 +2,4 @@ pub mod Known
 pub mod Own
 pub mod Entry
 pub mod Events
+pub mod Stores

@@ -7,6 +7,7 @@ ghost use Rattle.plain.specs.Promise.{Whole};
 ghost use Rattle.sheet.specs.Entry.{Step-says, own, step-fits};
 ghost use Rattle.sheet.specs.Known.{known};
 ghost use Rattle.sheet.specs.Own.{refusal-of};
+ghost use Rattle.sheet.specs.Stores.{Stores-lines};
 use event::Event;
 use formulas::command::Refusal;
 use formulas::command::read_command;
@@ -69,6 +70,13 @@ pub fn step(memory: &mut [u64], kind: u64, bytes: &[u8], out: &mut [u8]) -> Told
 // The main promise, over what is known by now: for all devices, commands and power failures the engine does what the plain sheet does.
 pub fn whole_stands() -> u8
     ensures { λ _. ⌜ Whole known own ⌝ }
+{
+    0
+}
+
+// Whatever its memory holds and whatever it is told, the engine stores only lines of 64 bytes.
+pub fn stores_stand() -> u8
+    ensures { λ _. ⌜ Stores-lines ⌝ }
 {
     0
 }

@@ -7,9 +7,9 @@ use Rattle.device.proofs.memory.Device.read.Needs as need
 pub returns-in-Some : need.returns-in-Some
 returns-in-Some c =
     let h = c .in-Some .ensures tt .finds in
-    h .3 .1 [] ∙ (line-getD _ _ ∙ ap (λ ls. line-at ls (c .args .k)) (c .deref .ensures .value ∙ c .args .self .now .«seen_is»))
+    sym (h .3 .1 [] ∙ (line-getD _ _ ∙ ap (λ ls. line-at ls (c .args .k)) (c .deref .ensures .value ∙ c .args .self .now .«seen_is»)))
 
 pub returns-in-None : need.returns-in-None
 returns-in-None c =
     let h = c .in-None .ensures tt .finds in
-    no-line _ _ (h .3) ∙ ap (λ ls. line-at ls (c .args .k)) (c .deref .ensures .value ∙ c .args .self .now .«seen_is»)
+    sym (no-line _ _ (h .3) ∙ ap (λ ls. line-at ls (c .args .k)) (c .deref .ensures .value ∙ c .args .self .now .«seen_is»))

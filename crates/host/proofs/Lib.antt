@@ -1,0 +1,4 @@
+pub mod Rows
+pub mod Carries
+pub mod Loops
+pub mod Powers
