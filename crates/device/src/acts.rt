@@ -15,6 +15,9 @@ use crate::store::Store;
 use std::alloc::AllocError;
 use std::alloc::Global;
 
+// What says of a store in the cache that it had arrived when power failed.
+const ARRIVED: u8 = 1;
+
 fn zeros(heap: Global, n: usize) -> Result<Vec<[u8; 64]>, AllocError>
     ensures { λ r. ⌜ made r (λ v. vec-items v ≡ so-many-of n (so-many-of 64 0)) ⌝ }
 {
@@ -65,7 +68,7 @@ fn write_back(lines: &mut [[u8; 64]], cache: &[Store], arrived: &[u8])
 {
     let few = cache.len().min(arrived.len());
     for i in 0..few {
-        if arrived[i] == 1 {
+        if arrived[i] == ARRIVED {
             put(lines, cache[i].at, cache[i].line);
         }
     }

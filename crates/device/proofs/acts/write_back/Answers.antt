@@ -6,14 +6,14 @@ use native.Mathlib.Omega.{arith}
 use lib.ListN.{length}
 use Rattle.std.proofs.shelf.Tests.{cases-lt}
 use Rattle.device.proofs.Seen.{arrived-more, lost-more, left-all}
-use Rattle.device.proofs.acts.write_back.Needs.{then-arrived-i-eq1, else-arrived-i-eq1}
+use Rattle.device.proofs.acts.write_back.Needs.{then-arrived-i-eq-ARRIVED, else-arrived-i-eq-ARRIVED}
 use Rattle.device.proofs.acts.write_back.Needs as need
 
 pub loop-i-again : need.loop-i-again
 loop-i-again c =
-    elim (c .if-arrived-i-eq1 .came) [
-    then-arrived-i-eq1 w ↦ arrived-more (c .loop-i .lines) _ (c .args .cache .now) (c .args .arrived .now) (c .loop-i .i) (record { at = 0; line = [] }) (omega arith) (omega arith) (w .if-arrived-i-eq1 .taken) (w .lines-is ∙ w .put .ensures) ∙ c .loop-i .inv
-    | else-arrived-i-eq1 w ↦ lost-more (c .loop-i .lines) _ (c .args .cache .now) (c .args .arrived .now) (c .loop-i .i) (record { at = 0; line = [] }) (omega arith) (omega arith) (w .if-arrived-i-eq1 .left) (w .lines-is) ∙ c .loop-i .inv ]
+    elim (c .if-arrived-i-eq-ARRIVED .came) [
+    then-arrived-i-eq-ARRIVED w ↦ arrived-more (c .loop-i .lines) _ (c .args .cache .now) (c .args .arrived .now) (c .loop-i .i) (record { at = 0; line = [] }) (omega arith) (omega arith) (w .if-arrived-i-eq-ARRIVED .taken) (w .lines-is ∙ w .put .ensures) ∙ c .loop-i .inv
+    | else-arrived-i-eq-ARRIVED w ↦ lost-more (c .loop-i .lines) _ (c .args .cache .now) (c .args .arrived .now) (c .loop-i .i) (record { at = 0; line = [] }) (omega arith) (omega arith) (w .if-arrived-i-eq-ARRIVED .left) (w .lines-is) ∙ c .loop-i .inv ]
 
 pub returns : need.returns
 returns c =
