@@ -2,8 +2,9 @@
 -- Assumes nothing: these are definitions, and one statement, of which a theorem function has a proof.
 use mathlib.Core.Bool.{Bool, true, false}
 use mathlib.Core.Path.{_≡_}
-use mathlib.Core.List.{List, [], _∷_}
+use mathlib.Core.List.{List}
 use Prim.Native.Nat.{ℕ}
+use lib.Dec.{ltb}
 use lib.ListN.{drop}
 use Rattle.std.specs.declared.option.Option.{Option}
 use Rattle.std.specs.declared.option.Option.the-variants.{Some, None}
@@ -13,7 +14,7 @@ use Rattle.plain.specs.Term.{pick, Box, Term, Terms}
 use Rattle.plain.specs.Commands as plain
 use Rattle.plain.specs.Commands.{core, core-term, core-terms, term-spelled}
 use Rattle.plain.specs.Promise.{Said, Never}
-use Rattle.plain.specs.Read.{Got, got, read-command}
+use Rattle.plain.specs.Read.{Got, got, nothing, term-tag, read-command}
 use Rattle.spelling.specs.declared.place.Place.{Place}
 use Rattle.spelling.specs.declared.place.Area.{Area}
 use Rattle.formulas.specs.declared.command.Command.{Command}
@@ -45,11 +46,6 @@ parts (plain.insert v p k) = Other
 parts (plain.remove v p k) = Other
 parts (plain.copy b c r) = Other
 
--- with nothing behind it
-abbrev pub alone-of : Command → List ℕ → Option Command
-alone-of c [] = Some c
-alone-of c (b ∷ bs) = None
-
 -- a formula that is passed over, by whether it is of the core
 abbrev pub Passed : Got Term → Bool → List ℕ → Type 0
 Passed g b bs = (t : Term) × (g ≡ got t bs) × (core-term t ≡ b)
@@ -57,9 +53,13 @@ Passed g b bs = (t : Term) × (g ≡ got t bs) × (core-term t ≡ b)
 abbrev pub Passed-all : Got Terms → Bool → List ℕ → Type 0
 Passed-all g b bs = (ts : Terms) × (g ≡ got ts bs) × (core-terms ts ≡ b)
 
-abbrev pub parts-of : Option plain.Command → Option Command
-parts-of None = None
-parts-of (Some c) = Some (parts c)
+-- a formula with the tag k that has no other in it
+abbrev pub leaf-tag : ℕ → List ℕ → Got Term
+leaf-tag k bs = pick (ltb k 5) (term-tag (λ _. nothing) k bs) nothing
+
+-- a command that is read, by its parts
+abbrev pub Partly : Got plain.Command → Command → List ℕ → Type 0
+Partly g p bs = (c : plain.Command) × (g ≡ got c bs) × (parts c ≡ p)
 
 abbrev pub told-of : Option plain.Command → Result Command Refusal
 told-of None = Err Malformed

@@ -1,25 +1,39 @@
 // Commands: a byte that says which, and its parts. Bytes that are no command, or one that is not of the core, are refused.
 ghost use lib.Dec.{leb};
 ghost use mathlib.Core.Path.{_≡_};
-ghost use Rattle.formulas.specs.Told.{alone-of, number-of, parts-of, told};
+ghost use Rattle.formulas.specs.Told.{Partly, number-of, told};
 ghost use Rattle.plain.specs.Commands.{places-of};
-ghost use Rattle.plain.specs.Read.{Behind, a-stretch, command-tag, nothing, read-command, read-stretch, read-target, stretch-of, whole};
+ghost use Rattle.plain.specs.Read.{Behind, a-stretch, command-tag, nothing, one, read-stretch, read-target, stretch-of, then};
 ghost use Rattle.spelling.specs.Meaning.{box-of};
 ghost use Rattle.std.specs.Options.{Cases};
+use crate::formula::AREA;
+use crate::formula::CELL;
 use crate::formula::formula;
+use crate::formula::leaf;
 use spelling::bytes::flag;
 use spelling::bytes::number;
 use spelling::bytes::one;
 use spelling::name::name;
 use spelling::place::Area;
 use spelling::place::Place;
-use spelling::place::Reference;
+
+// The byte that a command begins with.
+const SET: u8 = 1;
+const WIPE: u8 = 2;
+const SHOW: u8 = 3;
+const ROWS: u8 = 4;
+const WRITTEN: u8 = 5;
+const NAME: u8 = 6;
+const UNNAME: u8 = 7;
+const INSERT: u8 = 8;
+const REMOVE: u8 = 9;
+const COPY: u8 = 10;
 
 const DEEPEST: u8 = 32;
 const LONGEST: usize = 1024;
 const MOST_PLACES: u32 = 4096;
-const COLUMNS: u64 = 256;
-const ROWS: u64 = 65536;
+const COLUMN_COUNT: u64 = 256;
+const ROW_COUNT: u64 = 65536;
 
 #[derive(Clone, Copy)]
 pub enum Command {
@@ -60,29 +74,26 @@ fn is_few(area: Area) -> bool
     wide * high <= MOST_PLACES
 }
 
-// What a name may stand for: a cell or an area.
+// What a name may stand for: a cell or an area, spelled as in a formula.
 fn target(bytes: &[u8]) -> Option<&[u8]>
     ensures { λ r. ⌜ Cases r (read-target (now (bytes .entry)) ≡ nothing) (λ p. Behind (read-target (now (bytes .entry))) (p .now)) ⌝ }
 {
-    let (tag, rest) = one(bytes)?;
-    match tag {
-        1 => {
-            let (_cell, rest) = Reference::read(rest)?;
-            Some(rest)
-        }
-        2 => {
-            let (_first, rest) = Reference::read(rest)?;
-            let (_last, rest) = Reference::read(rest)?;
-            Some(rest)
-        }
-        _ => None,
+    let Some((tag, rest)) = one(bytes) else {
+        return None;
+    };
+    if tag != CELL && tag != AREA {
+        return None;
     }
+    let Some((_core, rest)) = leaf(tag, rest) else {
+        return None;
+    };
+    Some(rest)
 }
 
 fn is_stretch(rows: bool, at: u64, many: u64) -> bool
     ensures { λ r. ⌜ r ≡ a-stretch (stretch-of rows at many) ⌝ }
 {
-    let all = if rows { ROWS } else { COLUMNS };
+    let all = if rows { ROW_COUNT } else { COLUMN_COUNT };
     at < all && 1 <= many && many <= all
 }
 
@@ -90,78 +101,124 @@ fn is_stretch(rows: bool, at: u64, many: u64) -> bool
 fn stretch(bytes: &[u8]) -> Option<&[u8]>
     ensures { λ r. ⌜ Cases r (read-stretch (now (bytes .entry)) ≡ nothing) (λ p. Behind (read-stretch (now (bytes .entry))) (p .now)) ⌝ }
 {
-    let (rows, rest) = flag(bytes)?;
-    let (at, rest) = number(rest)?;
-    let (many, rest) = number(rest)?;
+    let Some((rows, rest)) = flag(bytes) else {
+        return None;
+    };
+    let Some((at, rest)) = number(rest) else {
+        return None;
+    };
+    let Some((many, rest)) = number(rest) else {
+        return None;
+    };
     if is_stretch(rows, at, many) { Some(rest) } else { None }
 }
 
-// The command, if nothing is behind it.
-fn alone(command: Command, rest: &[u8]) -> Option<Command>
-    ensures { λ r. ⌜ r ≡ alone-of command (now (rest .entry)) ⌝ }
+fn set(bytes: &[u8]) -> Option<(Command, &[u8])>
+    ensures { λ r. ⌜ Cases r (command-tag 1 (now (bytes .entry)) ≡ nothing) (λ p. Partly (command-tag 1 (now (bytes .entry))) (p .0) (p .1 .now)) ⌝ }
 {
-    if rest.len() == 0 { Some(command) } else { None }
-}
-
-fn set(bytes: &[u8]) -> Option<Command>
-    ensures { λ r. ⌜ r ≡ parts-of (whole (command-tag 1 (now (bytes .entry)))) ⌝ }
-{
-    let (place, rest) = Place::read(bytes)?;
+    let Some((place, rest)) = Place::read(bytes) else {
+        return None;
+    };
     if rest.len() > LONGEST {
         return None;
     }
-    let (core, rest) = formula(rest, DEEPEST)?;
-    if core { alone(Command::Set(place), rest) } else { alone(Command::Other, rest) }
+    let Some((core, rest)) = formula(rest, DEEPEST) else {
+        return None;
+    };
+    if core { Some((Command::Set(place), rest)) } else { Some((Command::Other, rest)) }
 }
 
-fn rows(bytes: &[u8]) -> Option<Command>
-    ensures { λ r. ⌜ r ≡ parts-of (whole (command-tag 4 (now (bytes .entry)))) ⌝ }
+fn wipe(bytes: &[u8]) -> Option<(Command, &[u8])>
+    ensures { λ r. ⌜ Cases r (command-tag 2 (now (bytes .entry)) ≡ nothing) (λ p. Partly (command-tag 2 (now (bytes .entry))) (p .0) (p .1 .now)) ⌝ }
 {
-    let (area, rest) = Area::read(bytes)?;
-    if is_few(area) { alone(Command::Rows(area), rest) } else { None }
+    let Some((area, rest)) = Area::read(bytes) else {
+        return None;
+    };
+    Some((Command::Wipe(area), rest))
 }
 
-fn copy(bytes: &[u8]) -> Option<Command>
-    ensures { λ r. ⌜ r ≡ parts-of (whole (command-tag 10 (now (bytes .entry)))) ⌝ }
+fn show(bytes: &[u8]) -> Option<(Command, &[u8])>
+    ensures { λ r. ⌜ Cases r (command-tag 3 (now (bytes .entry)) ≡ nothing) (λ p. Partly (command-tag 3 (now (bytes .entry))) (p .0) (p .1 .now)) ⌝ }
 {
-    let (_from, rest) = Area::read(bytes)?;
-    let (_to, rest) = Place::read(rest)?;
-    alone(Command::Other, rest)
+    let Some((place, rest)) = Place::read(bytes) else {
+        return None;
+    };
+    Some((Command::Show(place), rest))
 }
 
-fn parsed(bytes: &[u8]) -> Option<Command>
-    ensures { λ r. ⌜ r ≡ parts-of (read-command (now (bytes .entry))) ⌝ }
+fn rows(bytes: &[u8]) -> Option<(Command, &[u8])>
+    ensures { λ r. ⌜ Cases r (command-tag 4 (now (bytes .entry)) ≡ nothing) (λ p. Partly (command-tag 4 (now (bytes .entry))) (p .0) (p .1 .now)) ⌝ }
 {
-    let (tag, rest) = one(bytes)?;
+    let Some((area, rest)) = Area::read(bytes) else {
+        return None;
+    };
+    if is_few(area) { Some((Command::Rows(area), rest)) } else { None }
+}
+
+fn written(bytes: &[u8]) -> Option<(Command, &[u8])>
+    ensures { λ r. ⌜ Cases r (command-tag 5 (now (bytes .entry)) ≡ nothing) (λ p. Partly (command-tag 5 (now (bytes .entry))) (p .0) (p .1 .now)) ⌝ }
+{
+    let Some((place, rest)) = Place::read(bytes) else {
+        return None;
+    };
+    Some((Command::Written(place), rest))
+}
+
+fn named(bytes: &[u8]) -> Option<(Command, &[u8])>
+    ensures { λ r. ⌜ Cases r (command-tag 6 (now (bytes .entry)) ≡ nothing) (λ p. Partly (command-tag 6 (now (bytes .entry))) (p .0) (p .1 .now)) ⌝ }
+{
+    let Some((_text, rest)) = name(bytes) else {
+        return None;
+    };
+    let Some(rest) = target(rest) else {
+        return None;
+    };
+    Some((Command::Other, rest))
+}
+
+fn unnamed(bytes: &[u8]) -> Option<(Command, &[u8])>
+    ensures { λ r. ⌜ Cases r (command-tag 7 (now (bytes .entry)) ≡ nothing) (λ p. Partly (command-tag 7 (now (bytes .entry))) (p .0) (p .1 .now)) ⌝ }
+{
+    let Some((_text, rest)) = name(bytes) else {
+        return None;
+    };
+    Some((Command::Other, rest))
+}
+
+fn copied(bytes: &[u8]) -> Option<(Command, &[u8])>
+    ensures { λ r. ⌜ Cases r (command-tag 10 (now (bytes .entry)) ≡ nothing) (λ p. Partly (command-tag 10 (now (bytes .entry))) (p .0) (p .1 .now)) ⌝ }
+{
+    let Some((_from, rest)) = Area::read(bytes) else {
+        return None;
+    };
+    let Some((_to, rest)) = Place::read(rest) else {
+        return None;
+    };
+    Some((Command::Other, rest))
+}
+
+// The command at the front of bytes, and what is behind it.
+fn front(bytes: &[u8]) -> Option<(Command, &[u8])>
+    ensures { λ r. ⌜ Cases r (then (one (now (bytes .entry))) command-tag ≡ nothing) (λ p. Partly (then (one (now (bytes .entry))) command-tag) (p .0) (p .1 .now)) ⌝ }
+{
+    let Some((tag, rest)) = one(bytes) else {
+        return None;
+    };
     match tag {
-        1 => set(rest),
-        2 => {
-            let (area, rest) = Area::read(rest)?;
-            alone(Command::Wipe(area), rest)
+        SET => set(rest),
+        WIPE => wipe(rest),
+        SHOW => show(rest),
+        ROWS => rows(rest),
+        WRITTEN => written(rest),
+        NAME => named(rest),
+        UNNAME => unnamed(rest),
+        INSERT | REMOVE => {
+            let Some(rest) = stretch(rest) else {
+                return None;
+            };
+            Some((Command::Other, rest))
         }
-        3 => {
-            let (shown, rest) = Place::read(rest)?;
-            alone(Command::Show(shown), rest)
-        }
-        4 => rows(rest),
-        5 => {
-            let (place, rest) = Place::read(rest)?;
-            alone(Command::Written(place), rest)
-        }
-        6 => {
-            let (_text, rest) = name(rest)?;
-            let rest = target(rest)?;
-            alone(Command::Other, rest)
-        }
-        7 => {
-            let (_unnamed, rest) = name(rest)?;
-            alone(Command::Other, rest)
-        }
-        8 | 9 => {
-            let rest = stretch(rest)?;
-            alone(Command::Other, rest)
-        }
-        10 => copy(rest),
+        COPY => copied(rest),
         _ => None,
     }
 }
@@ -170,9 +227,12 @@ fn parsed(bytes: &[u8]) -> Option<Command>
 pub fn read_command(bytes: &[u8]) -> Result<Command, Refusal>
     ensures { λ r. ⌜ r ≡ told (now (bytes .entry)) ⌝ }
 {
-    let Some(command) = parsed(bytes) else {
+    let Some((command, rest)) = front(bytes) else {
         return Err(Refusal::Malformed);
     };
+    if rest.len() > 0 {
+        return Err(Refusal::Malformed);
+    }
     match command {
         Command::Other => Err(Refusal::Unknown),
         core => Ok(core),

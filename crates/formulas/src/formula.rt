@@ -1,7 +1,7 @@
 // Formulas: a prefix code of constants, references, operators and functions.
 ghost use mathlib.Core.Path.{_≡_};
 ghost use Prim.Native.Nat.{_≤_};
-ghost use Rattle.formulas.specs.Told.{Passed, Passed-all};
+ghost use Rattle.formulas.specs.Told.{Passed, Passed-all, leaf-tag};
 ghost use Rattle.plain.specs.Read.{nothing, read-term, so-many, term-tag};
 ghost use Rattle.std.specs.Options.{Cases};
 use spelling::bytes::one;
@@ -11,8 +11,8 @@ use spelling::place::Reference;
 
 // The byte that a formula begins with.
 const CONSTANT: u8 = 0;
-const CELL: u8 = 1;
-const AREA: u8 = 2;
+pub(crate) const CELL: u8 = 1;
+pub(crate) const AREA: u8 = 2;
 const NAMED: u8 = 3;
 const GONE: u8 = 4;
 const OPPOSITE: u8 = 5;
@@ -31,64 +31,94 @@ pub fn formula(bytes: &[u8], depth: u8) -> Option<(bool, &[u8])>
     if depth == 0 {
         return None;
     }
-    let (tag, rest) = one(bytes)?;
+    let Some((tag, rest)) = one(bytes) else {
+        return None;
+    };
+    match tag {
+        OPPOSITE => formula(rest, depth - 1),
+        OPERATOR => operator(rest, depth - 1),
+        FUNCTION => function(rest, depth - 1),
+        _ => leaf(tag, rest),
+    }
+}
+
+// Passes over a formula that has no other in it.
+pub(crate) fn leaf(tag: u8, bytes: &[u8]) -> Option<(bool, &[u8])>
+    ensures { λ r. ⌜ Cases r (leaf-tag tag (now (bytes .entry)) ≡ nothing) (λ p. Passed (leaf-tag tag (now (bytes .entry))) (p .0) (p .1 .now)) ⌝ }
+{
     match tag {
         CONSTANT => {
-            let (_value, rest) = Constant::read(rest)?;
+            let Some((_value, rest)) = Constant::read(bytes) else {
+                return None;
+            };
             Some((true, rest))
         }
         CELL => {
-            let (_place, rest) = Reference::read(rest)?;
+            let Some((_place, rest)) = Reference::read(bytes) else {
+                return None;
+            };
             Some((true, rest))
         }
-        AREA => {
-            let (_first, rest) = Reference::read(rest)?;
-            let (_last, rest) = Reference::read(rest)?;
-            Some((false, rest))
-        }
+        AREA => area(bytes),
         NAMED => {
-            let (_text, rest) = name(rest)?;
+            let Some((_text, rest)) = name(bytes) else {
+                return None;
+            };
             Some((false, rest))
         }
-        GONE => Some((false, rest)),
-        OPPOSITE => opposite(rest, depth - 1),
-        OPERATOR => operator(rest, depth - 1),
-        FUNCTION => function(rest, depth - 1),
+        GONE => Some((false, bytes)),
         _ => None,
     }
 }
 
-fn opposite(bytes: &[u8], depth: u8) -> Option<(bool, &[u8])>
-    ensures { λ r. ⌜ Cases r (term-tag (read-term depth) 5 (now (bytes .entry)) ≡ nothing) (λ p. Passed (term-tag (read-term depth) 5 (now (bytes .entry))) (p .0) (p .1 .now)) ⌝ }
+fn area(bytes: &[u8]) -> Option<(bool, &[u8])>
+    ensures { λ r. ⌜ Cases r (leaf-tag 2 (now (bytes .entry)) ≡ nothing) (λ p. Passed (leaf-tag 2 (now (bytes .entry))) (p .0) (p .1 .now)) ⌝ }
 {
-    let (core, rest) = formula(bytes, depth)?;
-    Some((core, rest))
+    let Some((_first, rest)) = Reference::read(bytes) else {
+        return None;
+    };
+    let Some((_last, rest)) = Reference::read(rest) else {
+        return None;
+    };
+    Some((false, rest))
 }
 
 fn operator(bytes: &[u8], depth: u8) -> Option<(bool, &[u8])>
     ensures { λ r. ⌜ Cases r (term-tag (read-term depth) 6 (now (bytes .entry)) ≡ nothing) (λ p. Passed (term-tag (read-term depth) 6 (now (bytes .entry))) (p .0) (p .1 .now)) ⌝ }
 {
-    let (which, rest) = one(bytes)?;
+    let Some((which, rest)) = one(bytes) else {
+        return None;
+    };
     if which >= OPERATORS {
         return None;
     }
-    let (a, rest) = formula(rest, depth)?;
-    let (b, rest) = formula(rest, depth)?;
+    let Some((a, rest)) = formula(rest, depth) else {
+        return None;
+    };
+    let Some((b, rest)) = formula(rest, depth) else {
+        return None;
+    };
     Some((a & b, rest))
 }
 
 fn function(bytes: &[u8], depth: u8) -> Option<(bool, &[u8])>
     ensures { λ r. ⌜ Cases r (term-tag (read-term depth) 7 (now (bytes .entry)) ≡ nothing) (λ p. Passed (term-tag (read-term depth) 7 (now (bytes .entry))) (p .0) (p .1 .now)) ⌝ }
 {
-    let (which, rest) = one(bytes)?;
+    let Some((which, rest)) = one(bytes) else {
+        return None;
+    };
     if which >= FUNCTIONS {
         return None;
     }
-    let (n, rest) = one(rest)?;
+    let Some((n, rest)) = one(rest) else {
+        return None;
+    };
     if n > MOST_VALUES {
         return None;
     }
-    let (all, rest) = formulas(rest, n, depth)?;
+    let Some((all, rest)) = formulas(rest, n, depth) else {
+        return None;
+    };
     Some(((which == IF) & all, rest))
 }
 
@@ -99,7 +129,11 @@ fn formulas(bytes: &[u8], n: u8, depth: u8) -> Option<(bool, &[u8])>
     if n == 0 {
         return Some((true, bytes));
     }
-    let (first, rest) = formula(bytes, depth)?;
-    let (others, rest) = formulas(rest, n - 1, depth)?;
+    let Some((first, rest)) = formula(bytes, depth) else {
+        return None;
+    };
+    let Some((others, rest)) = formulas(rest, n - 1, depth) else {
+        return None;
+    };
     Some((first & others, rest))
 }

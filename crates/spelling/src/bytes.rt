@@ -6,14 +6,18 @@ ghost use Rattle.std.specs.Options.{Cases};
 pub fn one(bytes: &[u8]) -> Option<(u8, &[u8])>
     ensures { λ r. ⌜ Cases r (one (now (bytes .entry)) ≡ nothing) (λ p. one (now (bytes .entry)) ≡ got (p .0) (p .1 .now)) ⌝ }
 {
-    let (first, rest) = bytes.split_first()?;
+    let Some((first, rest)) = bytes.split_first() else {
+        return None;
+    };
     Some((*first, rest))
 }
 
 pub fn flag(bytes: &[u8]) -> Option<(bool, &[u8])>
     ensures { λ r. ⌜ Cases r (read-flag (now (bytes .entry)) ≡ nothing) (λ p. read-flag (now (bytes .entry)) ≡ got (p .0) (p .1 .now)) ⌝ }
 {
-    let (b, rest) = one(bytes)?;
+    let Some((b, rest)) = one(bytes) else {
+        return None;
+    };
     match b {
         0 => Some((false, rest)),
         1 => Some((true, rest)),
@@ -25,7 +29,9 @@ pub fn flag(bytes: &[u8]) -> Option<(bool, &[u8])>
 pub fn number(bytes: &[u8]) -> Option<(u64, &[u8])>
     ensures { λ r. ⌜ Cases r (read-eight (now (bytes .entry)) ≡ nothing) (λ p. read-eight (now (bytes .entry)) ≡ got (p .0) (p .1 .now)) ⌝ }
 {
-    let (head, rest) = bytes.split_at_checked(8)?;
+    let Some((head, rest)) = bytes.split_at_checked(8) else {
+        return None;
+    };
     Some((u64::from_be_bytes([head[0], head[1], head[2], head[3], head[4], head[5], head[6], head[7]]), rest))
 }
 
@@ -33,7 +39,9 @@ pub fn number(bytes: &[u8]) -> Option<(u64, &[u8])>
 pub fn counted(bytes: &[u8], most: u64) -> Option<(&[u8], &[u8])>
     ensures { λ r. ⌜ Cases r (read-counted most (now (bytes .entry)) ≡ nothing) (λ p. read-counted most (now (bytes .entry)) ≡ got (p .0 .now) (p .1 .now)) ⌝ }
 {
-    let (n, rest) = number(bytes)?;
+    let Some((n, rest)) = number(bytes) else {
+        return None;
+    };
     if n > most {
         return None;
     }

@@ -9,8 +9,14 @@ use crate::bytes::flag;
 use crate::bytes::number;
 use crate::bytes::one;
 
+// The byte that a constant begins with.
+const NUMBER: u8 = 1;
+const TEXT: u8 = 2;
+const TRUTH: u8 = 3;
+
 // Numbers have fewer millionths than this, either way.
 const LIMIT: u64 = 4611686018427387904;
+const LONGEST: u64 = 255;
 
 #[derive(Clone, Copy)]
 pub enum Constant<'a> {
@@ -29,8 +35,12 @@ fn is_small(below_zero: bool, millionths: u64) -> bool
 fn signed_number(bytes: &[u8]) -> Option<(Constant, &[u8])>
     ensures { λ r. ⌜ Cases r (value-tag 1 (now (bytes .entry)) ≡ nothing) (λ p. value-tag 1 (now (bytes .entry)) ≡ got (value-of (p .0)) (p .1 .now)) ⌝ }
 {
-    let (below_zero, rest) = flag(bytes)?;
-    let (millionths, rest) = number(rest)?;
+    let Some((below_zero, rest)) = flag(bytes) else {
+        return None;
+    };
+    let Some((millionths, rest)) = number(rest) else {
+        return None;
+    };
     if is_small(below_zero, millionths) { Some((Constant::Number { below_zero, millionths }, rest)) } else { None }
 }
 
@@ -38,15 +48,21 @@ impl<'a> Constant<'a> {
     pub fn read(bytes: &'a [u8]) -> Option<(Constant<'a>, &'a [u8])>
         ensures { λ r. ⌜ Cases r (read-value (now (bytes .entry)) ≡ nothing) (λ p. read-value (now (bytes .entry)) ≡ got (value-of (p .0)) (p .1 .now)) ⌝ }
     {
-        let (tag, rest) = one(bytes)?;
+        let Some((tag, rest)) = one(bytes) else {
+            return None;
+        };
         match tag {
-            1 => signed_number(rest),
-            2 => {
-                let (text, rest) = counted(rest, 255)?;
+            NUMBER => signed_number(rest),
+            TEXT => {
+                let Some((text, rest)) = counted(rest, LONGEST) else {
+                    return None;
+                };
                 Some((Constant::Text(text), rest))
             }
-            3 => {
-                let (truth, rest) = flag(rest)?;
+            TRUTH => {
+                let Some((truth, rest)) = flag(rest) else {
+                    return None;
+                };
                 Some((Constant::Truth(truth), rest))
             }
             _ => None,

@@ -31,6 +31,8 @@ pub fn is_name(text: &[u8]) -> bool
 pub fn name(bytes: &[u8]) -> Option<(&[u8], &[u8])>
     ensures { λ r. ⌜ Cases r (read-name (now (bytes .entry)) ≡ nothing) (λ p. read-name (now (bytes .entry)) ≡ got (p .0 .now) (p .1 .now)) ⌝ }
 {
-    let (text, rest) = counted(bytes, 64)?;
+    let Some((text, rest)) = counted(bytes, LONGEST as u64) else {
+        return None;
+    };
     if is_name(text) { Some((text, rest)) } else { None }
 }

@@ -17,7 +17,7 @@ pub struct Place {
 }
 
 // A box of places, both corners in it.
-#[derive(Clone, Copy, PartialEq, Eq, Debug)]
+#[derive(Clone, Copy)]
 pub struct Area {
     pub left: u8,
     pub top: u16,
@@ -26,7 +26,7 @@ pub struct Area {
 }
 
 // A place that a formula refers to; what is fixed stays when the formula is copied.
-#[derive(Clone, Copy, PartialEq, Eq, Debug)]
+#[derive(Clone, Copy)]
 pub struct Reference {
     pub col: u8,
     pub row: u16,
@@ -38,8 +38,12 @@ impl Place {
     pub fn read(bytes: &[u8]) -> Option<(Place, &[u8])>
         ensures { λ r. ⌜ Cases r (read-place (now (bytes .entry)) ≡ nothing) (λ p. read-place (now (bytes .entry)) ≡ got (place-of (p .0)) (p .1 .now)) ⌝ }
     {
-        let (col, rest) = one(bytes)?;
-        let (row, rest) = number(rest)?;
+        let Some((col, rest)) = one(bytes) else {
+            return None;
+        };
+        let Some((row, rest)) = number(rest) else {
+            return None;
+        };
         if row > LAST_ROW {
             return None;
         }
@@ -51,8 +55,12 @@ impl Area {
     pub fn read(bytes: &[u8]) -> Option<(Area, &[u8])>
         ensures { λ r. ⌜ Cases r (read-box (now (bytes .entry)) ≡ nothing) (λ p. read-box (now (bytes .entry)) ≡ got (box-of (p .0)) (p .1 .now)) ⌝ }
     {
-        let (first, rest) = Place::read(bytes)?;
-        let (last, rest) = Place::read(rest)?;
+        let Some((first, rest)) = Place::read(bytes) else {
+            return None;
+        };
+        let Some((last, rest)) = Place::read(rest) else {
+            return None;
+        };
         if first.col > last.col || first.row > last.row {
             return None;
         }
@@ -64,9 +72,15 @@ impl Reference {
     pub fn read(bytes: &[u8]) -> Option<(Reference, &[u8])>
         ensures { λ r. ⌜ Cases r (read-ref (now (bytes .entry)) ≡ nothing) (λ p. read-ref (now (bytes .entry)) ≡ got (ref-of (p .0)) (p .1 .now)) ⌝ }
     {
-        let (place, rest) = Place::read(bytes)?;
-        let (fix_col, rest) = flag(rest)?;
-        let (fix_row, rest) = flag(rest)?;
+        let Some((place, rest)) = Place::read(bytes) else {
+            return None;
+        };
+        let Some((fix_col, rest)) = flag(rest) else {
+            return None;
+        };
+        let Some((fix_row, rest)) = flag(rest) else {
+            return None;
+        };
         Some((Reference { col: place.col, row: place.row, fix_col, fix_row }, rest))
     }
 }

@@ -1,16 +1,21 @@
-use mathlib.Core.Path.{_≡_, sym, _∙_}
+use mathlib.Core.Path.{sym}
+use native.Mathlib.Omega.{arith}
 use Rattle.formulas.specs.Told.{told}
-use Rattle.formulas.proofs.Telling.{told-parts, told-ok}
+use Rattle.formulas.proofs.Telling.{told-long, told-other, told-core}
 use Rattle.formulas.proofs.command.read_command.Needs as need
 
 pub returns-in-rest : need.returns-in-rest
 unfolding told
-returns-in-rest c = rw (told-parts, ← (c .in-rest .ensures tt))
+returns-in-rest c = rw (c .in-rest .ensures tt)
+
+pub returns-then-rest-gt0 : need.returns-then-rest-gt0
+unfolding told
+returns-then-rest-gt0 c = sym (told-long _ _ _ (c .in-Some .ensures tt) (c .if-rest-gt0 .taken))
 
 pub returns-in-Other : need.returns-in-Other
 unfolding told
-returns-in-Other c = rw (told-parts, ← (c .in-Some .ensures tt), c .in-Other .is)
+returns-in-Other c = sym (told-other _ _ _ (c .in-Some .ensures tt) (omega arith) (c .in-Other .is))
 
 pub returns-in-rest-command : need.returns-in-rest-command
 unfolding told
-returns-in-rest-command c = rw (told-parts, ← (c .in-Some .ensures tt)) (sym (told-ok _ (c .in-rest-command .not-Other)))
+returns-in-rest-command c = sym (told-core _ _ _ (c .in-Some .ensures tt) (omega arith) (c .in-rest-command .not-Other))

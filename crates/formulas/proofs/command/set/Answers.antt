@@ -1,25 +1,23 @@
-use mathlib.Core.Path.{_≡_, sym, _∙_}
+use mathlib.Core.Path.{_≡_, refl, _∙_}
 use Rattle.std.proofs.shelf.Tests.{le-leb, lt-leb}
-use Rattle.plain.specs.Commands as plain
-use Rattle.plain.specs.Read.{command-tag, only}
-use Rattle.formulas.proofs.Telling.{alone-whole}
+use Rattle.plain.specs.Read.{only}
 use Rattle.formulas.proofs.command.set.Needs as need
 
-pub returns-in-Break-place : need.returns-in-Break-place
-returns-in-Break-place c = rw (c .from-residual .ensures) (rw (c .in-Break-place .ensures tt))
+pub returns-in-rest : need.returns-in-rest
+returns-in-rest c = rw (c .in-rest .ensures tt)
 
 pub returns-then-rest-gt-LONGEST : need.returns-then-rest-gt-LONGEST
 unfolding only
-returns-then-rest-gt-LONGEST c = rw (c .in-Continue-place .ensures tt, lt-leb _ 1024 (c .if-rest-gt-LONGEST .taken))
+returns-then-rest-gt-LONGEST c = rw (c .in-Some .ensures tt, lt-leb _ 1024 (c .if-rest-gt-LONGEST .taken))
 
-pub returns-in-Break-core : need.returns-in-Break-core
+pub returns-in-rest-formula : need.returns-in-rest-formula
 unfolding only
-returns-in-Break-core c = rw (c .from-residual-in-Break-core .ensures) (rw (c .in-Continue-place .ensures tt, le-leb _ 1024 (c .if-rest-gt-LONGEST .left), c .in-Break-core .ensures tt))
+returns-in-rest-formula c = rw (c .in-Some .ensures tt, le-leb _ 1024 (c .if-rest-gt-LONGEST .left), c .in-rest-formula .ensures tt)
 
 pub returns-then-core : need.returns-then-core
 unfolding only
-returns-then-core c = rw (c .in-Continue-place .ensures tt, le-leb _ 1024 (c .if-rest-gt-LONGEST .left), c .in-Continue-core .ensures tt .1) (c .alone .ensures ∙ sym (alone-whole (plain.set-cell _ _ _) _ ∙ rw (c .in-Continue-core .ensures tt .2 ∙ c .if-core .taken)))
+returns-then-core c = rw (c .in-Some .ensures tt, le-leb _ 1024 (c .if-rest-gt-LONGEST .left), c .in-Some-formula .ensures tt .1) (_, refl, rw (c .in-Some-formula .ensures tt .2 ∙ c .if-core .taken))
 
 pub returns-else-core : need.returns-else-core
 unfolding only
-returns-else-core c = rw (c .in-Continue-place .ensures tt, le-leb _ 1024 (c .if-rest-gt-LONGEST .left), c .in-Continue-core .ensures tt .1) (c .alone-else-core .ensures ∙ sym (alone-whole (plain.set-cell _ _ _) _ ∙ rw (c .in-Continue-core .ensures tt .2 ∙ c .if-core .left)))
+returns-else-core c = rw (c .in-Some .ensures tt, le-leb _ 1024 (c .if-rest-gt-LONGEST .left), c .in-Some-formula .ensures tt .1) (_, refl, rw (c .in-Some-formula .ensures tt .2 ∙ c .if-core .left))

@@ -1,11 +1,11 @@
 use Rattle.spelling.proofs.Fronts.{too-many, counted-here}
 use Rattle.spelling.proofs.bytes.counted.Needs as need
 
-pub returns-in-Break-n : need.returns-in-Break-n
-returns-in-Break-n c = rw (c .from-residual .ensures) (rw (c .in-Break-n .ensures tt))
+pub returns-in-rest : need.returns-in-rest
+returns-in-rest c = rw (c .in-rest .ensures tt)
 
 pub returns-then-n-most : need.returns-then-n-most
-returns-then-n-most c = rw (c .in-Continue-n .ensures tt) (too-many _ _ _ _ (c .if-n-most .taken))
+returns-then-n-most c = rw (c .in-Some .ensures tt) (too-many _ _ _ _ (c .if-n-most .taken))
 
 pub returns : need.returns
-returns c = rw (c .in-Continue-n .ensures tt) (counted-here _ _ _ _ _ _ (c .if-n-most .left) (c .split-at-checked .ensures .cases))
+returns c = rw (c .in-Some .ensures tt) (counted-here _ _ _ _ _ _ (c .if-n-most .left) (c .split-at-checked .ensures .cases))

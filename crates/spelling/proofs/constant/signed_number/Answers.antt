@@ -2,16 +2,16 @@ use mathlib.Core.Path.{_≡_, sym, _∙_}
 use Rattle.plain.specs.Read.{only}
 use Rattle.spelling.proofs.constant.signed_number.Needs as need
 
-pub returns-in-Break-below-zero : need.returns-in-Break-below-zero
-returns-in-Break-below-zero c = rw (c .from-residual .ensures) (rw (c .in-Break-below-zero .ensures tt))
+pub returns-in-rest : need.returns-in-rest
+returns-in-rest c = rw (c .in-rest .ensures tt)
 
-pub returns-in-Break-millionths : need.returns-in-Break-millionths
-returns-in-Break-millionths c = rw (c .from-residual-in-Break-millionths .ensures) (rw (c .in-Continue-below-zero .ensures tt, c .in-Break-millionths .ensures tt))
+pub returns-in-rest-number : need.returns-in-rest-number
+returns-in-rest-number c = rw (c .in-Some .ensures tt, c .in-rest-number .ensures tt)
 
 pub returns-then-is-small : need.returns-then-is-small
 unfolding only
-returns-then-is-small c = rw (c .in-Continue-below-zero .ensures tt, c .in-Continue-millionths .ensures tt) (rw (sym (c .is-small .ensures) ∙ c .if-is-small .taken))
+returns-then-is-small c = rw (c .in-Some .ensures tt, c .in-Some-number .ensures tt) (rw (sym (c .is-small .ensures) ∙ c .if-is-small .taken))
 
 pub returns-else-is-small : need.returns-else-is-small
 unfolding only
-returns-else-is-small c = rw (c .in-Continue-below-zero .ensures tt, c .in-Continue-millionths .ensures tt) (rw (sym (c .is-small .ensures) ∙ c .if-is-small .left))
+returns-else-is-small c = rw (c .in-Some .ensures tt, c .in-Some-number .ensures tt) (rw (sym (c .is-small .ensures) ∙ c .if-is-small .left))

@@ -1,18 +1,18 @@
 use Rattle.plain.specs.Read.{read-ref}
 use Rattle.spelling.proofs.place.Reference.read.Needs as need
 
-pub returns-in-Break-place : need.returns-in-Break-place
+pub returns-in-rest : need.returns-in-rest
 unfolding read-ref
-returns-in-Break-place c = rw (c .from-residual .ensures) (rw (c .in-Break-place .ensures tt))
+returns-in-rest c = rw (c .in-rest .ensures tt)
 
-pub returns-in-Break-fix-col : need.returns-in-Break-fix-col
+pub returns-in-rest-flag : need.returns-in-rest-flag
 unfolding read-ref
-returns-in-Break-fix-col c = rw (c .from-residual-in-Break-fix-col .ensures) (rw (c .in-Continue-place .ensures tt, c .in-Break-fix-col .ensures tt))
+returns-in-rest-flag c = rw (c .in-Some .ensures tt, c .in-rest-flag .ensures tt)
 
-pub returns-in-Break-fix-row : need.returns-in-Break-fix-row
+pub returns-in-rest-flag-2 : need.returns-in-rest-flag-2
 unfolding read-ref
-returns-in-Break-fix-row c = rw (c .from-residual-in-Break-fix-row .ensures) (rw (c .in-Continue-place .ensures tt, c .in-Continue-fix-col .ensures tt, c .in-Break-fix-row .ensures tt))
+returns-in-rest-flag-2 c = rw (c .in-Some .ensures tt, c .in-Some-flag .ensures tt, c .in-rest-flag-2 .ensures tt)
 
 pub returns : need.returns
 unfolding read-ref
-returns c = rw (c .in-Continue-place .ensures tt, c .in-Continue-fix-col .ensures tt, c .in-Continue-fix-row .ensures tt)
+returns c = rw (c .in-Some .ensures tt, c .in-Some-flag .ensures tt, c .in-Some-flag-2 .ensures tt)

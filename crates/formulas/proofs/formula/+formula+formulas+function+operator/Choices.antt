@@ -1,5 +1,5 @@
 use Prim.Native.Nat.{_+_, _*_}
-use Rattle.formulas.proofs.formula.+formula+formulas+function+operator+opposite.Given as given
+use Rattle.formulas.proofs.formula.+formula+formulas+function+operator.Given as given
 
 abbrev pub μ-formula : given.MeasureT-formula
 μ-formula l = 64 * l .depth
@@ -12,6 +12,3 @@ abbrev pub μ-function : given.MeasureT-function
 
 abbrev pub μ-operator : given.MeasureT-operator
 μ-operator l = 64 * l .depth + 32
-
-abbrev pub μ-opposite : given.MeasureT-opposite
-μ-opposite l = 64 * l .depth + 32
