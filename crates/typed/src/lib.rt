@@ -1,4 +1,4 @@
-// What a person types on one line, turned into the bytes of a command; and what the engine shows, turned into text.
+// What a person types on one line, turned into the bytes of a command. GRAMMAR.md, beside this folder, says what can be typed.
 mod code;
 mod commands;
 mod constants;

@@ -9,27 +9,22 @@ use crate::places::reference;
 use crate::scan::Cursor;
 use crate::scan::Kind;
 use crate::scan::Word;
+use crate::words::place_among;
 use spelling::name::is_name;
 
 // What each is spelled with first.
 const CELL: u8 = 1;
 const AREA: u8 = 2;
 const NAMED: u8 = 3;
-// Keywords are spelled whole.
-const KEYWORDS: [(&str, &[u8]); 3] = [("true", &[0, 3, 1]), ("false", &[0, 3, 0]), ("gone", &[4])];
+const GONE: u8 = 4;
+const TRUTH: [u8; 2] = [0, 3];
 
-fn keyword(word: &[u8]) -> Option<&'static [u8]> {
-    for (name, spelled) in &KEYWORDS {
-        if name.as_bytes() == word {
-            return Some(*spelled);
-        }
-    }
-    None
-}
+// The truths, each at its number, and what stands for a place that is gone.
+const KEYWORDS: [&str; 3] = ["false", "true", "gone"];
 
 // Whether a formula takes the word for a name with no @ before it, if it is one.
 pub fn is_plain(word: &[u8]) -> bool {
-    Kind::Digit.run(word) == 0 && !has_shape_of_place(word) && keyword(word).is_none()
+    Kind::Digit.run(word) == 0 && !has_shape_of_place(word) && place_among(&KEYWORDS, word).is_none()
 }
 
 fn put_name(code: &mut Code, word: Word) -> Result<(), Unreadable>
@@ -93,9 +88,14 @@ pub fn read_word(cursor: &mut Cursor, code: &mut Code, word: Word) -> Result<(),
     if has_shape_of_place(word.bytes) {
         return put_target(cursor, code, word);
     }
-    match keyword(word.bytes) {
-        Some(spelled) => {
-            code.put_all(spelled);
+    match place_among(&KEYWORDS, word.bytes) {
+        Some(2) => {
+            code.put(GONE);
+            Ok(())
+        }
+        Some(truth) => {
+            code.put_all(&TRUTH);
+            code.put(truth);
             Ok(())
         }
         None => {
