@@ -1,11 +1,10 @@
 // Formulas as text: operators between their operands, with brackets around an operand that is itself one.
+use crate::page::Page;
 use crate::values::put_constant;
 use spelling::bytes::one;
 use spelling::constant::Constant;
 use spelling::name::name;
 use spelling::place::Reference;
-use std::alloc::AllocError;
-use std::alloc::Global;
 
 // The byte that a formula begins with.
 const CONSTANT: u8 = 0;
@@ -48,161 +47,157 @@ fn function_word(which: u8) -> Option<&'static str> {
 }
 
 // Columns are A to Z, then AA to IV.
-fn put_column(text: &mut String, col: u8) -> Result<(), AllocError> {
+fn put_column(page: &mut Page, col: u8) {
     if col >= 26 {
-        text.push(char::from(b'A' + (col / 26 - 1)))?;
+        page.put_char(char::from(b'A' + (col / 26 - 1)));
     }
-    text.push(char::from(b'A' + col % 26))?;
-    Ok(())
+    page.put_char(char::from(b'A' + col % 26));
 }
 
-fn put_reference(heap: Global, text: &mut String, to: Reference) -> Result<(), AllocError> {
+fn put_reference(page: &mut Page, to: Reference) {
     if to.fix_col {
-        text.push_str("$")?;
+        page.put("$");
     }
-    put_column(text, to.col)?;
+    put_column(page, to.col);
     if to.fix_row {
-        text.push_str("$")?;
+        page.put("$");
     }
-    let row = u32::from(to.row) + 1;
-    let digits = format!(heap, "{row}")?;
-    text.push_str(&digits)?;
-    Ok(())
+    page.put_number(u64::from(to.row) + 1);
 }
 
-fn area<'a>(heap: Global, text: &mut String, bytes: &'a [u8]) -> Result<Option<&'a [u8]>, AllocError> {
+fn area<'a>(page: &mut Page, bytes: &'a [u8]) -> Option<&'a [u8]> {
     let Some((first, rest)) = Reference::read(bytes) else {
-        return Ok(None);
+        return None;
     };
     let Some((last, rest)) = Reference::read(rest) else {
-        return Ok(None);
+        return None;
     };
-    put_reference(heap, text, first)?;
-    text.push_str(":")?;
-    put_reference(heap, text, last)?;
-    Ok(Some(rest))
+    put_reference(page, first);
+    page.put(":");
+    put_reference(page, last);
+    Some(rest)
 }
 
-// Names are letters, digits and underscores.
-fn put_name(text: &mut String, bytes: &[u8]) -> Result<(), AllocError> {
+// The mark before a name keeps one such as A1 from being read as a place.
+fn put_name(page: &mut Page, bytes: &[u8]) {
+    page.put("@");
     for b in bytes {
         if b.is_ascii() {
-            text.push(char::from(*b))?;
+            page.put_char(char::from(*b));
         }
     }
-    Ok(())
 }
 
 // A formula with no other in it.
-fn leaf<'a>(heap: Global, text: &mut String, tag: u8, bytes: &'a [u8]) -> Result<Option<&'a [u8]>, AllocError> {
+fn leaf<'a>(page: &mut Page, tag: u8, bytes: &'a [u8]) -> Option<&'a [u8]> {
     match tag {
         CONSTANT => {
             let Some((constant, rest)) = Constant::read(bytes) else {
-                return Ok(None);
+                return None;
             };
-            put_constant(heap, text, constant)?;
-            Ok(Some(rest))
+            put_constant(page, constant);
+            Some(rest)
         }
         CELL => {
             let Some((to, rest)) = Reference::read(bytes) else {
-                return Ok(None);
+                return None;
             };
-            put_reference(heap, text, to)?;
-            Ok(Some(rest))
+            put_reference(page, to);
+            Some(rest)
         }
-        AREA => area(heap, text, bytes),
+        AREA => area(page, bytes),
         NAMED => {
             let Some((named, rest)) = name(bytes) else {
-                return Ok(None);
+                return None;
             };
-            put_name(text, named)?;
-            Ok(Some(rest))
+            put_name(page, named);
+            Some(rest)
         }
         GONE => {
-            text.push_str("gone")?;
-            Ok(Some(bytes))
+            page.put("gone");
+            Some(bytes)
         }
-        _ => Ok(None),
+        _ => None,
     }
 }
 
 // Prints the formula at the front, at most so deep, and hands on what is behind it; nothing where there is no formula.
-pub fn formula<'a>(heap: Global, text: &mut String, bytes: &'a [u8], depth: u8) -> Result<Option<&'a [u8]>, AllocError> {
+pub fn formula<'a>(page: &mut Page, bytes: &'a [u8], depth: u8) -> Option<&'a [u8]> {
     if depth == 0 {
-        return Ok(None);
+        return None;
     }
     let Some((tag, rest)) = one(bytes) else {
-        return Ok(None);
+        return None;
     };
     match tag {
-        OPPOSITE => opposite(heap, text, rest, depth - 1),
-        OPERATOR => operator(heap, text, rest, depth - 1),
-        FUNCTION => function(heap, text, rest, depth - 1),
-        _ => leaf(heap, text, tag, rest),
+        OPPOSITE => opposite(page, rest, depth - 1),
+        OPERATOR => operator(page, rest, depth - 1),
+        FUNCTION => function(page, rest, depth - 1),
+        _ => leaf(page, tag, rest),
     }
 }
 
 // An operand, in brackets where it is an operator.
-fn operand<'a>(heap: Global, text: &mut String, bytes: &'a [u8], depth: u8) -> Result<Option<&'a [u8]>, AllocError> {
+fn operand<'a>(page: &mut Page, bytes: &'a [u8], depth: u8) -> Option<&'a [u8]> {
     let bracketed = matches!(bytes, [OPPOSITE, ..] | [OPERATOR, ..]);
     if bracketed {
-        text.push_str("(")?;
+        page.put("(");
     }
-    let rest = formula(heap, text, bytes, depth)?;
+    let rest = formula(page, bytes, depth);
     if bracketed {
-        text.push_str(")")?;
+        page.put(")");
     }
-    Ok(rest)
+    rest
 }
 
 // Always in brackets, since a minus before digits belongs to the number.
-fn opposite<'a>(heap: Global, text: &mut String, bytes: &'a [u8], depth: u8) -> Result<Option<&'a [u8]>, AllocError> {
-    text.push_str("-(")?;
-    let rest = formula(heap, text, bytes, depth)?;
-    text.push_str(")")?;
-    Ok(rest)
+fn opposite<'a>(page: &mut Page, bytes: &'a [u8], depth: u8) -> Option<&'a [u8]> {
+    page.put("-(");
+    let rest = formula(page, bytes, depth);
+    page.put(")");
+    rest
 }
 
-fn operator<'a>(heap: Global, text: &mut String, bytes: &'a [u8], depth: u8) -> Result<Option<&'a [u8]>, AllocError> {
+fn operator<'a>(page: &mut Page, bytes: &'a [u8], depth: u8) -> Option<&'a [u8]> {
     let Some((which, rest)) = one(bytes) else {
-        return Ok(None);
+        return None;
     };
     let Some(mark) = operator_mark(which) else {
-        return Ok(None);
+        return None;
     };
-    let Some(rest) = operand(heap, text, rest, depth)? else {
-        return Ok(None);
+    let Some(rest) = operand(page, rest, depth) else {
+        return None;
     };
-    text.push_str(mark)?;
-    operand(heap, text, rest, depth)
+    page.put(mark);
+    operand(page, rest, depth)
 }
 
-fn function<'a>(heap: Global, text: &mut String, bytes: &'a [u8], depth: u8) -> Result<Option<&'a [u8]>, AllocError> {
+fn function<'a>(page: &mut Page, bytes: &'a [u8], depth: u8) -> Option<&'a [u8]> {
     let Some((which, rest)) = one(bytes) else {
-        return Ok(None);
+        return None;
     };
     let Some(word) = function_word(which) else {
-        return Ok(None);
+        return None;
     };
     let Some((n, rest)) = one(rest) else {
-        return Ok(None);
+        return None;
     };
-    text.push_str(word)?;
-    text.push_str("(")?;
-    let rest = arguments(heap, text, rest, depth, n)?;
-    text.push_str(")")?;
-    Ok(rest)
+    page.put(word);
+    page.put("(");
+    let rest = arguments(page, rest, depth, n);
+    page.put(")");
+    rest
 }
 
-fn arguments<'a>(heap: Global, text: &mut String, bytes: &'a [u8], depth: u8, n: u8) -> Result<Option<&'a [u8]>, AllocError> {
+fn arguments<'a>(page: &mut Page, bytes: &'a [u8], depth: u8, n: u8) -> Option<&'a [u8]> {
     if n == 0 {
-        return Ok(Some(bytes));
+        return Some(bytes);
     }
-    let Some(rest) = formula(heap, text, bytes, depth)? else {
-        return Ok(None);
+    let Some(rest) = formula(page, bytes, depth) else {
+        return None;
     };
     if n > 1 {
-        text.push_str(", ")?;
+        page.put(", ");
     }
-    arguments(heap, text, rest, depth, n - 1)
+    arguments(page, rest, depth, n - 1)
 }

@@ -1,91 +1,87 @@
 // Values as text: numbers with as few digits as can be, texts in quotes, truths, what is wrong, and nothing.
+use crate::page::Page;
 use spelling::bytes::one;
 use spelling::constant::Constant;
-use std::alloc::AllocError;
-use std::alloc::Global;
 
 const MILLION: u64 = 1000000;
 const NOTHING: u8 = 0;
 const WRONG: u8 = 4;
 
 // The digits behind the point, without zeros at the end.
-fn put_fraction(heap: Global, text: &mut String, millionths: u64) -> Result<(), AllocError> {
-    let digits = format!(heap, ".{millionths:06}")?;
-    text.push_str(digits.trim_end_matches('0'))?;
-    Ok(())
+fn put_fraction(page: &mut Page, millionths: u64) {
+    let mut left = millionths % MILLION;
+    let mut unit = MILLION / 10;
+    page.put(".");
+    for _ in 0..6u8 {
+        if left == 0 || unit == 0 {
+            break;
+        }
+        page.put_number(left / unit);
+        left %= unit;
+        unit /= 10;
+    }
 }
 
-pub fn put_number(heap: Global, text: &mut String, below_zero: bool, millionths: u64) -> Result<(), AllocError> {
+fn put_number(page: &mut Page, below_zero: bool, millionths: u64) {
     let count = if below_zero { millionths.saturating_add(1) } else { millionths };
     if below_zero {
-        text.push_str("-")?;
+        page.put("-");
     }
-    let whole = count / MILLION;
-    let digits = format!(heap, "{whole}")?;
-    text.push_str(&digits)?;
+    page.put_number(count / MILLION);
     if count % MILLION != 0 {
-        put_fraction(heap, text, count % MILLION)?;
+        put_fraction(page, count % MILLION);
     }
-    Ok(())
 }
 
-fn put_byte(heap: Global, text: &mut String, b: u8) -> Result<(), AllocError> {
+fn put_byte(page: &mut Page, b: u8) {
     match b {
-        b'\'' => text.push_str("''")?,
-        b'\\' => text.push_str("\\\\")?,
-        32..=126 => text.push(char::from(b))?,
+        b'\'' => page.put("''"),
+        b'\\' => page.put("\\\\"),
+        32..=126 => page.put_char(char::from(b)),
         _ => {
-            let escaped = format!(heap, "\\x{b:02x}")?;
-            text.push_str(&escaped)?
+            page.put("\\x");
+            page.put_hex(b);
         }
     }
-    Ok(())
 }
 
-fn put_text(heap: Global, text: &mut String, bytes: &[u8]) -> Result<(), AllocError> {
-    text.push_str("'")?;
+fn put_text(page: &mut Page, bytes: &[u8]) {
+    page.put("'");
     for b in bytes {
-        put_byte(heap, text, *b)?;
+        put_byte(page, *b);
     }
-    text.push_str("'")?;
-    Ok(())
+    page.put("'");
 }
 
-pub fn put_constant(heap: Global, text: &mut String, constant: Constant) -> Result<(), AllocError> {
+pub fn put_constant(page: &mut Page, constant: Constant) {
     match constant {
-        Constant::Number { below_zero, millionths } => put_number(heap, text, below_zero, millionths),
-        Constant::Text(bytes) => put_text(heap, text, bytes),
-        Constant::Truth(true) => {
-            text.push_str("true")?;
-            Ok(())
-        }
-        Constant::Truth(false) => {
-            text.push_str("false")?;
-            Ok(())
-        }
+        Constant::Number { below_zero, millionths } => put_number(page, below_zero, millionths),
+        Constant::Text(bytes) => put_text(page, bytes),
+        Constant::Truth(true) => page.put("true"),
+        Constant::Truth(false) => page.put("false"),
     }
 }
 
 // Prints the value at the front, and hands on what is behind it; nothing where there is no value.
-pub fn value<'a>(heap: Global, text: &mut String, row: &'a [u8]) -> Result<Option<&'a [u8]>, AllocError> {
+pub fn value<'a>(page: &mut Page, row: &'a [u8]) -> Option<&'a [u8]> {
     let Some((tag, rest)) = one(row) else {
-        return Ok(None);
+        return None;
     };
     if tag == NOTHING {
-        text.push_str("nothing")?;
-        return Ok(Some(rest));
+        page.put("nothing");
+        return Some(rest);
     }
     if tag == WRONG {
         let Some((which, rest)) = one(rest) else {
-            return Ok(None);
+            return None;
         };
-        let wrong = format!(heap, "wrong {which}")?;
-        text.push_str(&wrong)?;
-        return Ok(Some(rest));
+        page.put("wrong ");
+        page.put_number(u64::from(which));
+        return Some(rest);
     }
     let Some((constant, rest)) = Constant::read(row) else {
-        return Ok(None);
+        return None;
     };
-    put_constant(heap, text, constant)?;
-    Ok(Some(rest))
+    put_constant(page, constant);
+    Some(rest)
 }

@@ -1,6 +1,4 @@
 // Places as a person types them: letters for the column, and the row from 1; a $ before either fixes it.
-ghost use Prim.Native.Nat.{_<_};
-ghost use Rattle.std.specs.Options.{Cases};
 use crate::fault::Expected;
 use crate::fault::Unreadable;
 use crate::scan::Cursor;

@@ -14,9 +14,6 @@ use formulas::command::Refusal;
 use formulas::command::read_command;
 use std::alloc::Global;
 
-// A place and the longest formula.
-const LONGEST_SET: usize = 1034;
-
 // What the rows are that a command is answered with.
 #[derive(Clone, Copy)]
 pub enum Answer {
@@ -51,10 +48,9 @@ fn answer_to(read: Result<Command, Refusal>) -> Option<Answer>
     }
 }
 
-// What is expected of a command whose bytes are none, though its parts are right: it is too large as a whole.
-fn instead(verb: Verb, length: usize) -> Expected {
+// What is expected of a command whose bytes are none, though each of its parts can be read: it is too large as a whole.
+fn instead(verb: Verb) -> Expected {
     match verb {
-        Verb::Set if length > LONGEST_SET => Expected::ShorterFormula,
         Verb::Set => Expected::ShallowerFormula,
         Verb::Rows => Expected::FewerPlaces,
         _ => Expected::Command,
@@ -67,7 +63,7 @@ fn sealed(bytes: Vec<u8>, verb: Verb, column: usize) -> Result<Line, Unreadable>
 {
     match answer_to(read_command(bytes.as_slice())) {
         Some(answer) => Ok(Line::Command { bytes, answer }),
-        None => Err(Unreadable::Lacks(instead(verb, bytes.len()), column)),
+        None => Err(Unreadable::Lacks(instead(verb), column)),
     }
 }
 

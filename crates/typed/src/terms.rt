@@ -21,9 +21,10 @@ const FUNCTION: u8 = 7;
 // Tighter than any operator binds.
 const TIGHTEST: u8 = 4;
 const MOST_VALUES: u8 = 16;
-// A formula of 1,024 bytes has fewer.
-const MOST_OPERATORS: u16 = 512;
-// Brackets and operators each take one of these. A formula is at most 32 deep, so they suffice for one with brackets around each part.
+// The bytes of a cell that is set, its place and its formula.
+const LONGEST: usize = 1034;
+const DEEPEST: u8 = 32;
+// Brackets, operators and functions each take one of these while they are open; they suffice for the deepest formula with brackets around each part.
 const LEVELS: u8 = 80;
 
 // How an operand begins.
@@ -38,8 +39,8 @@ enum Start {
 }
 
 impl Start {
-    // How the operand that comes next begins, with the mark taken that says so; a minus before a digit is the number's.
-    fn of(cursor: &mut Cursor) -> Start {
+    // Takes the mark with which the operand that comes next begins, if it has one; a minus before a digit is the number's.
+    fn take(cursor: &mut Cursor) -> Start {
         cursor.skip_blanks();
         let start = match cursor.ahead(0) {
             b'0'..=b'9' => return Start::Number,
@@ -78,7 +79,11 @@ fn formula(cursor: &mut Cursor, code: &mut Code, level: u8, depth: u8) -> Result
     }
     let start = code.len();
     operand(cursor, code, depth - 1)?;
-    for _ in 0..MOST_OPERATORS {
+    if code.len() > LONGEST {
+        return Err(Unreadable::Lacks(Expected::ShorterFormula, cursor.column));
+    }
+    // Each further operator makes the formula deeper by one.
+    for _ in 0..DEEPEST {
         let Some(found) = operator(cursor, level) else {
             return Ok(());
         };
@@ -87,13 +92,13 @@ fn formula(cursor: &mut Cursor, code: &mut Code, level: u8, depth: u8) -> Result
         code.put_before(start, OPERATOR);
         formula(cursor, code, found.level() + 1, depth - 1)?;
     }
-    Err(Unreadable::Lacks(Expected::ShorterFormula, cursor.column))
+    Err(Unreadable::Lacks(Expected::ShallowerFormula, cursor.column))
 }
 
 fn operand(cursor: &mut Cursor, code: &mut Code, depth: u8) -> Result<(), Unreadable>
     ensures { λ _. ⌜ size (now (code .entry)) ≤ size (now (code .exit)) ⌝ }
 {
-    match Start::of(cursor) {
+    match Start::take(cursor) {
         Start::Number => read_number(cursor, code),
         Start::Text => read_text(cursor, code),
         Start::Name => read_named(cursor, code),

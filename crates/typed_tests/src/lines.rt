@@ -1,5 +1,6 @@
 // A table has a line for each case: what is typed, an arrow, and what is expected.
 use printed::formula_text;
+use printed::value_text;
 use std::alloc::Global;
 use std::test::*;
 use typed::fault::UnreadableDisplay;
@@ -90,8 +91,10 @@ if (A1<2, gone, not(true)) => 7 4 3 6 6 1 0 #0 0 0 0 1 0 #2000000 4 7 9 1 0 3 1
 sum + @true => 6 0 3 #3 115 117 109 3 #4 116 114 117 101
 tax2024 => 3 #7 116 97 120 50 48 50 52";
 
-// As deep as a formula may be, in the ways that take most brackets when they are printed.
+// A formula of many kinds, and then some as deep as they may be, in the ways that take most brackets when they are printed.
 const DEEP: &str = "\
+if(A1 < 2, 'few' & 'C:\\\\', lookup(price, $A$1:C2, -3 * count(A1:C2)) / -(3) - gone)
+1+1+1+1+1+1+1+1+1+1+1+1+1+1+1+1+1+1+1+1+1+1+1+1+1+1+1+1+1+1+1+1
 -------------------------------A1
 1-(1-(1-(1-(1-(1-(1-(1-(1-(1-(1-(1-(1-(1-(1-(1-(1-(1-(1-(1-(1-(1-(1-(1-(1-(1-(1-(1-(1-(1-(1-1))))))))))))))))))))))))))))))
 1- -(1- -(1- -(1- -(1- -(1- -(1- -(1- -(1- -(1- -(1- -(1- -(1- -(1- -(1- -A1))))))))))))))
@@ -107,6 +110,7 @@ wipe A1:A65537 => expected a place such as B7, from A1 to IV65536 at column 9
 show $A1 => expected a place such as B7, from A1 to IV65536 at column 6
 show A1 B2 => expected the end of the line at column 9
 set A1 => expected a formula such as 12, 'cod', B7 or sum(A1:C2) at column 7
+set A1 2 + => expected a formula such as 12, 'cod', B7 or sum(A1:C2) at column 11
 set A1 1 2 => expected an operator or the end of the line at column 10
 set A1 (1 => expected an operator or a closing bracket at column 10
 set A1 sum(1;2) => expected an operator, a comma or a closing bracket at column 13
@@ -122,6 +126,9 @@ insert columns 3 1 => expected a column from A to IV at column 16
 insert rows 3 65537 => expected how many of them, from 1 to all that there are at column 15
 rows A1:Q256 => expected no more than 4096 places at column 6
 set A1 sum(1,1,1,1,1,1,1,1,1,1,1,1,1,1,1,1,1) => expected no more than 16 values at column 44
+set A1 sum(sum(A1,A1,A1,A1,A1,A1,A1,A1,A1,A1,A1,A1,A1,A1,A1,A1),sum(A1,A1,A1,A1,A1,A1,A1,A1,A1,A1,A1,A1,A1,A1,A1,A1),sum(A1,A1,A1,A1,A1,A1,A1,A1,A1,A1,A1,A1,A1,A1,A1,A1),sum(A1,A1,A1,A1,A1,A1,A1,A1,A1,A1,A1,A1,A1,A1,A1,A1),sum(A1,A1,A1,A1,A1,A1,A1,A1,A1,A1,A1,A1,A1,A1,A1,A1),sum(A1,A1,A1,A1,A1,A1,A1,A1,A1,A1,A1,A1,A1,A1,A1,A1)) => expected a shorter formula, of at most 1024 bytes at column 292
+set A1 1+1+1+1+1+1+1+1+1+1+1+1+1+1+1+1+1+1+1+1+1+1+1+1+1+1+1+1+1+1+1+1+1 => expected a formula less deep, of at most 32 levels at column 73
+set A1 ((((((((((((((((((((((((((((((((((((((((((((((((((((((((((((((((((((((((((((((((1 => expected a formula less deep, of at most 32 levels at column 88
 set A1 --------------------------------A1 => expected a formula less deep, of at most 32 levels at column 8";
 
 #[test]
@@ -161,6 +168,29 @@ fn printed_formulas_are_read_again(rt: LibcRuntime) -> Result<(), Fail> {
     for case in FORMULAS.lines().chain(DEEP.lines()) {
         let (formula, _) = case.split_once(" => ").unwrap_or((case, ""));
         hold_again(rt.alloc(), formula).note(case)?;
+    }
+    Ok(())
+}
+
+const VALUES: &str = "\
+0 => nothing
+1 0 #38250000 => 38.25
+1 1 #0 => -0.000001
+1 0 #4611686018427387903 => 4611686018427.387903
+1 1 #4611686018427387902 => -4611686018427.387903
+2 #5 99 39 92 32 200 => 'c''\\\\ \\xc8'
+3 1 => true
+4 5 => wrong 5
+1 0 1 => ? 01 00 01";
+
+#[test]
+fn values_are_printed(rt: LibcRuntime) -> Result<(), Fail> {
+    let heap = rt.alloc();
+    for case in VALUES.lines() {
+        let (words, text) = case.split_once(" => ").unwrap_or((case, ""));
+        let row = bytes(heap, words)?;
+        let found = value_text(heap, row.as_slice())?;
+        check_eq(found.as_str(), text).note(case)?;
     }
     Ok(())
 }
