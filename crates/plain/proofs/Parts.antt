@@ -4,7 +4,7 @@ use mathlib.Core.Bool.{Bool, true, false, _&&_}
 use mathlib.Core.List.{List, [], _∷_, _++_, append-assoc}
 use Prim.Native.Nat.{ℕ, zero, suc, _+_, _-_, _*_, _≤_, _<_, _^_}
 use native.Mathlib.Omega.{arith}
-use lib.Dec.{ltb, leb, eqb}
+use lib.Dec.{ltb, leb, eqb, lit<}
 use lib.ListN.{length, take, drop, take-append-drop, length-append, length-take}
 use Rattle.std.proofs.shelf.Lists.{take-at, drop-at}
 use Rattle.std.proofs.shelf.Tests.{false≢true, and-parts, and-from, ltb-true, leb-true, le-leb, lt-ltb}
@@ -135,7 +135,7 @@ pub name-read : (n bs : List ℕ) → a-name n ≡ true → read-name (with-leng
 unfolding only
 name-read n bs o =
     let p : leb (length n) 64 ≡ true = and-parts _ _ (and-parts _ _ o .0) .1 in
-    rw (counted-read 64 n bs (omega arith) p) (rw o)
+    rw (counted-read 64 n bs (lit< tt) p) (rw o)
 
 signed-spelled : (x : Bool) (n : ℕ) → num-spelled (signed x n) ≡ bit x ∷ eight n
 unfolding num-spelled

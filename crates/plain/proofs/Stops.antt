@@ -10,6 +10,7 @@ use lib.ListN.{length}
 use Rattle.std.proofs.shelf.Tests.{eqb-true, eqb-false, ne-eqb}
 use Rattle.plain.specs.Term.{pick, every}
 use Rattle.plain.specs.Promise.{Settled-stays}
+use Rattle.plain.specs.Stopping.{seen, stop, Always, Is, Sure}
 use Rattle.plain.specs.Device.{Device, Line, Store, set-line, line-at, all-stored, read-line, of-line, of-others, settled, storing, left, stopped, a-line}
 
 -- lines and one that is put in
@@ -151,12 +152,6 @@ left-others ls k (w ∷ ws) cs = go (eqb (w .at) k) refl cs (λ ls₁ cs₁. lef
     go false e (c ∷ cs₁) again = again (pick (eqb c 1) (set-line ls (w .at) (w .line)) ls) cs₁ ∙ turn (eqb c 1) e
 
 -- OF DEVICES: the lines as they are read, and as a stop leaves them
-abbrev pub seen : Device → List Line
-seen d = all-stored (d .lines) (d .cache)
-
-abbrev pub stop : Device → List ℕ → List Line
-stop d cs = left (d .lines) (d .cache) cs
-
 pub seen-store : (d : Device) (k : ℕ) (p : Line) → seen (storing d k p) ≡ set-line (seen d) k p
 seen-store d k p = seen-stored (d .lines) (d .cache) (record { at = k; line = p })
 
@@ -204,10 +199,6 @@ stop-write d k p cs lt = (h .0, go (stop-store d k p (h .0)))
     go (inl e) = h .1 ∙ e ∙ sym (set-is (stop d (h .0)) k p (ap (λ ls. line-at ls k) (sym (h .1 ∙ e)) ∙ there))
     go (inr e) = h .1 ∙ e
 
--- what holds of the lines whatever stops
-abbrev pub Always : (List Line → Type 0) → Device → Type 0
-Always P d = (cs : List ℕ) → P (stop d cs)
-
 pub always-seen : (P : List Line → Type 0) (d : Device) → Always P d → P (seen d)
 always-seen P d a = let h = stop-seen d in subst P (h .1) (a (h .0))
 
@@ -236,10 +227,6 @@ always-quiet P d e p cs = subst P (sym (ap (λ ws. left (d .lines) ws cs) e ∙ 
     left-nil : (ls : List Line) (cs : List ℕ) → left ls [] cs ≡ ls
     left-nil ls cs = unfold left in refl
 
--- and beside it S of the lines as they are read
-abbrev pub Is : (List Line → Type 0) → (List Line → Type 0) → Device → Type 0
-Is S P d = Always P d × S (seen d)
-
 pub is-store : (S P : List Line → Type 0) (d : Device) (k : ℕ) (p : Line) → (S (seen d) → S (set-line (seen d) k p)) → ((ls : List Line) → P ls → P (set-line ls k p))
     → Is S P d → Is S P (storing d k p)
 is-store S P d k p f g a = (always-store P P d k p (λ ls x. x) g (a .0), subst S (sym (seen-store d k p)) (f (a .1)))
@@ -252,10 +239,7 @@ pub is-write : (S P R : List Line → Type 0) (d : Device) (k : ℕ) (p : Line) 
 is-write S P R d k p lt f g a =
     (always-write P R d k p lt g (a .0), subst S (sym (seen-settle (storing d k p) k ∙ seen-store d k p)) (f (a .1)))
 
--- OF ONE LINE, by what is in the cache: a line is sure if no store to it is there
-abbrev pub Sure : Device → ℕ → Type 0
-Sure d k = of-line k (d .cache) ≡ []
-
+-- OF ONE LINE, by what is in the cache
 line-more : (k : ℕ) (ws qs : List Store) → of-line k ws ≡ [] → of-line k qs ≡ [] → of-line k (ws ++ qs) ≡ []
 unfolding of-line
 line-more k [] qs a b = b

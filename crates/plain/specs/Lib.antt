@@ -7,3 +7,4 @@ pub mod Promise
 pub mod Read
 pub mod Laws
 pub mod Example
+pub mod Stopping

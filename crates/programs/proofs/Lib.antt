@@ -1,0 +1,4 @@
+pub mod Programs
+pub mod Rules
+pub mod Fate
+pub mod Rightly

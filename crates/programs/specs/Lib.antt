@@ -1,0 +1,4 @@
+pub mod Prog
+pub mod Machine
+pub mod Fates
+pub mod Beside
