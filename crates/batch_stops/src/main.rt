@@ -1,5 +1,7 @@
 // Stops batches after every act, and the recovery from each of these stops after every act again, each time with every choice of which stores in the
 // cache had arrived; and looks whether the batch happened wholly or not at all.
+#![tactic(auto)]
+
 mod bench;
 mod tally;
 

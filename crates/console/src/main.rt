@@ -1,4 +1,6 @@
 // The console: one command a line from standard input; what it shows, or why it was refused, on standard output.
+#![tactic(auto)]
+
 mod answers;
 
 use answers::answer;

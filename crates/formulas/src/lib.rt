@@ -1,6 +1,8 @@
 // Formulas and commands, read from their bytes: which bytes are a command, its parts, and whether it is of the core.
 // A formula is passed over as bytes by recursion with a depth that falls, and no tree of it is built.
 // Readers refuse by `let .. else` and not by `?`, since its proof takes half the time.
+#![tactic(auto)]
+
 ghost use Rattle.formulas.specs.Told.{ToldRight};
 
 pub mod command;

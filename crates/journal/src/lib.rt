@@ -1,4 +1,6 @@
 // The journal, as mathematics: a batch of line writes happens wholly or not at all. There is no code here to run: each contract is a theorem.
+#![tactic(auto)]
+
 ghost use Rattle.journal.specs.Promises.{LogicalSo, RecoveredSo, WholeOrNot};
 
 // Whatever stops, at any act and whatever the cache had brought, a batch happened or it did not; m entries use 3 m + 2 lines.

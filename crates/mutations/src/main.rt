@@ -1,4 +1,6 @@
 // Makes many commands by chance, changes some of their bytes, and has each read by the proved reader and by another one.
+#![tactic(auto)]
+
 mod buffer;
 mod changing;
 mod dice;

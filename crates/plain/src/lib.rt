@@ -1,5 +1,7 @@
 // The plain sheet and its laws. There is no code here to run: each function's contract is a theorem about the definitions in specs/,
 // and the crate is proved only with the theorem's proof, which stands in proofs/.
+#![tactic(auto)]
+
 ghost use Rattle.plain.specs.Example.{WorkedRight};
 ghost use Rattle.plain.specs.Laws.{BoxCopiedOn, ChangesLocal, CopiedOn, ReachesRight, ShownFixed, WorthLocal};
 ghost use Rattle.plain.specs.Promise.{CirclesWrong, CopiedSame, InAndOut, MovedWorth, NumbersRight, OthersSame, RoundsEnough, SettledStays, SpelledOnce, ValuesOrdered};

@@ -1,4 +1,6 @@
 // What the engine shows, turned into text: values and formulas, in the notation in which they are typed.
+#![tactic(auto)]
+
 mod formulas;
 mod page;
 mod values;

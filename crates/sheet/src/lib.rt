@@ -1,5 +1,7 @@
 // The sheet engine: one step, which is told one event and does one act. Everything else runs on top of it.
 // It knows no command yet: whatever is a command is refused as not known, and whatever is none as malformed.
+#![tactic(auto)]
+
 mod event;
 
 ghost use Rattle.std.specs.Prelude.{◌≡◌};

@@ -13,4 +13,4 @@ grown n m xs x y e h f =
     none_taken n xs (replicate (n - m) x) e ∙ (ap₂ (λ i a. replicate i a) z f ∙ many_replicated n y)
 
 pub returns : goal.returns
-returns c = c.in-ok-resize.ensures.items ∙ grown _ _ _ _ _ c.new-all.ensures.items c.new-all.ensures.len (many_replicated 64 0)
+returns c = c.in_ok-resize.ensures.items ∙ grown _ _ _ _ _ c.new-all.ensures.items c.new-all.ensures.len (many_replicated 64 0)

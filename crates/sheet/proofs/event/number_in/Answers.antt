@@ -8,7 +8,7 @@ overflow-mul-n c = let h = pow_few c.loop-i.i c.loop-i.n (omega arith) c.loop-i.
 
 pub loop-i-preserved : goal.loop-i-preserved
 loop-i-preserved c =
-    let f = c.type-inv.bytes c.loop-i.i in
+    let f = c.type_inv.bytes c.loop-i.i in
     let b : get_or c.args.bytes.now c.loop-i.i 0 < 256 = omega arith in
     rw c.from.ensures (
       pow_more c.loop-i.i c.loop-i.n (get_or c.args.bytes.now c.loop-i.i 0) c.loop-i.invariant.0 b,

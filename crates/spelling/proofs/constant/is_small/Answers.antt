@@ -3,10 +3,10 @@ use Rattle.std.proofs.lemmas.Bool.Decides.{nat_tests}
 use Rattle.plain.specs.Commands.{small_num}
 use Rattle.spelling.proofs.constant.is_small.Goals as goal
 
-pub returns-then-below-zero : goal.returns-then-below-zero
+pub returns-then-below_zero : goal.returns-then-below_zero
 unfolding small_num
-returns-then-below-zero c = rw c.if-below-zero.true (grind (arith, nat_tests))
+returns-then-below_zero c = rw c.if-below_zero.true (grind (arith, nat_tests))
 
-pub returns-else-below-zero : goal.returns-else-below-zero
+pub returns-else-below_zero : goal.returns-else-below_zero
 unfolding small_num
-returns-else-below-zero c = rw c.if-below-zero.false (grind (arith, nat_tests))
+returns-else-below_zero c = rw c.if-below_zero.false (grind (arith, nat_tests))

@@ -4,18 +4,17 @@ use Rattle.device.proofs.memory.Device.settle.Goals as goal
 
 pub bring-requires : goal.bring-requires
 bring-requires c =
-    ap length c.deref-mut.ensures.value ∙ (sym (seen_long _ _) ∙ sym (ap length (c.deref.ensures.value ∙ c.args.self.now.seen_is)))
+    ap length c.deref_mut.ensures.value ∙ (sym (seen_long _ _) ∙ sym (ap length (c.deref.ensures.value ∙ c.args.self.now.seen_is)))
 
-pub invariant-of-self : goal.invariant-of-self
-invariant-of-self c = (
-  settled_seen _ _ _ _ _ _ c.args.self.now.seen_is
-      (lines_then _ _ _ _ _ _ _ _ c.args.self.now.lines.ok.0 c.deref-mut.ensures.value c.deref.ensures.value c.args.self.now.seen_is c.bring.ensures)
-      (cache_then _ _ _ _ _ _ _ c.args.self.now.cache.ok.0 c.deref-mut-2.ensures.value c.keep-others-kept.auto.cache c.truncate.ensures.items c.keep-others-kept.ensures),
-  tt,
-)
+pub invariant_of-self : goal.invariant_of-self
+invariant_of-self c = record {
+  seen_is = settled_seen _ _ _ _ _ _ c.args.self.now.seen_is
+      (lines_then _ _ _ _ _ _ _ _ c.args.self.now.lines.ok.0 c.deref_mut.ensures.value c.deref.ensures.value c.args.self.now.seen_is c.bring.ensures)
+      (cache_then _ _ _ _ _ _ _ c.args.self.now.cache.ok.0 c.deref_mut-2.ensures.value c.keep_others-kept.auto.cache c.truncate.ensures.items c.keep_others-kept.ensures);
+}
 
 pub returns : goal.returns
 returns c =
     settled_so _ _ _ _ _
-    (lines_then _ _ _ _ _ _ _ _ c.args.self.now.lines.ok.0 c.deref-mut.ensures.value c.deref.ensures.value c.args.self.now.seen_is c.bring.ensures)
-    (cache_then _ _ _ _ _ _ _ c.args.self.now.cache.ok.0 c.deref-mut-2.ensures.value c.keep-others-kept.auto.cache c.truncate.ensures.items c.keep-others-kept.ensures)
+    (lines_then _ _ _ _ _ _ _ _ c.args.self.now.lines.ok.0 c.deref_mut.ensures.value c.deref.ensures.value c.args.self.now.seen_is c.bring.ensures)
+    (cache_then _ _ _ _ _ _ _ c.args.self.now.cache.ok.0 c.deref_mut-2.ensures.value c.keep_others-kept.auto.cache c.truncate.ensures.items c.keep_others-kept.ensures)

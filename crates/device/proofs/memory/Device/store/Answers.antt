@@ -5,14 +5,13 @@ use Rattle.device.specs.Stores.{stores_of}
 use Rattle.device.proofs.Seen.{lent_back, seen_more, stored_so}
 use Rattle.device.proofs.memory.Device.store.Goals as goal
 
-pub invariant-of-self-2 : goal.invariant-of-self-2
-invariant-of-self-2 c =
-    let ls = vec_items c.args.self.now.lines in (
-      lent_back _ _ _ (ap length c.put.ensures ∙ (length_set _ _ _ ∙ ap length c.deref-mut.ensures.value)) c.args.self.now.seen.ok.0
-          ∙ (c.put.ensures ∙ (ap (λ ls. set_line ls c.args.k c.args.line) (c.deref-mut.ensures.value ∙ c.args.self.now.seen_is)
-          ∙ sym (ap (λ ws. all_stored ls (stores_of ws)) c.in-ok-push.ensures.items ∙ seen_more ls _ _))),
-      tt,
-    )
+pub invariant_of-self-2 : goal.invariant_of-self-2
+invariant_of-self-2 c =
+    let ls = vec_items c.args.self.now.lines in record {
+      seen_is = lent_back _ _ _ (ap length c.put.ensures ∙ (length_set _ _ _ ∙ ap length c.deref_mut.ensures.value)) c.args.self.now.seen.ok.0
+          ∙ (c.put.ensures ∙ (ap (λ ls. set_line ls c.args.k c.args.line) (c.deref_mut.ensures.value ∙ c.args.self.now.seen_is)
+          ∙ sym (ap (λ ws. all_stored ls (stores_of ws)) c.in_ok-push.ensures.items ∙ seen_more ls _ _)));
+    }
 
 pub returns : goal.returns
-returns c = stored_so _ _ _ _ _ c.in-ok-push.ensures.items
+returns c = stored_so _ _ _ _ _ c.in_ok-push.ensures.items

@@ -18,7 +18,7 @@ pub returns : goal.returns
 unfolding words_in
 returns c =
     let l = c.args.bytes.now in
-    let t = line_back l c.if-bytes-ne-LINE-BYTES.false (typed_bytes l c.type-inv.bytes) in
+    let t = line_back l c.if-bytes-ne-LINE-BYTES.false (typed_bytes l c.type_inv.bytes) in
     let w : _ ≡ words_in (tidy l) =
     rw (t, c.word-from.ensures, c.word-from-2.ensures, c.word-from-3.ensures, c.word-from-4.ensures, c.word-from-5.ensures, c.word-from-6.ensures, c.word-from-7.ensures, c.word-from-8.ensures)
     in record { words = w; line = by_words l _ w }

@@ -3,4 +3,4 @@ use Rattle.plain.specs.Term.{empty}
 use Rattle.numbers.proofs.millionths.Millionths.is_less.Goals as goal
 
 pub returns : goal.returns
-returns c = less_so c.count.result c.count-2.result _ _ empty (record { sfits = c.count.type-inv }) (record { sfits = c.count-2.type-inv }) c.count.ensures c.count-2.ensures
+returns c = less_so c.count.result c.count-2.result _ _ empty (record { sfits = c.count.type_inv }) (record { sfits = c.count-2.type_inv }) c.count.ensures c.count-2.ensures

@@ -3,11 +3,11 @@ use Rattle.std.proofs.lemmas.Bool.Decides.{nat_tests}
 use Rattle.plain.specs.Read.{read_box, only}
 use Rattle.spelling.proofs.place.Area.read.Goals as goal
 
-pub returns-in-default : goal.returns-in-default
-returns-in-default c = rw c.in-default.ensures
+pub returns-in_default : goal.returns-in_default
+returns-in_default c = rw c.in_default.ensures
 
-pub returns-in-default-read : goal.returns-in-default-read
-returns-in-default-read c = rw (c.in-Some.ensures, c.in-default-read.ensures)
+pub returns-in_default-read : goal.returns-in_default-read
+returns-in_default-read c = rw (c.in-Some.ensures, c.in_default-read.ensures)
 
 pub returns-then-first-last : goal.returns-then-first-last
 unfolding only

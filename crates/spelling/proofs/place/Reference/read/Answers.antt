@@ -1,17 +1,17 @@
 use Rattle.plain.specs.Read.{read_ref}
 use Rattle.spelling.proofs.place.Reference.read.Goals as goal
 
-pub returns-in-default : goal.returns-in-default
+pub returns-in_default : goal.returns-in_default
 unfolding read_ref
-returns-in-default c = rw c.in-default.ensures
+returns-in_default c = rw c.in_default.ensures
 
-pub returns-in-default-flag : goal.returns-in-default-flag
+pub returns-in_default-flag : goal.returns-in_default-flag
 unfolding read_ref
-returns-in-default-flag c = rw (c.in-Some.ensures, c.in-default-flag.ensures)
+returns-in_default-flag c = rw (c.in-Some.ensures, c.in_default-flag.ensures)
 
-pub returns-in-default-flag-2 : goal.returns-in-default-flag-2
+pub returns-in_default-flag-2 : goal.returns-in_default-flag-2
 unfolding read_ref
-returns-in-default-flag-2 c = rw (c.in-Some.ensures, c.in-Some-flag.ensures, c.in-default-flag-2.ensures)
+returns-in_default-flag-2 c = rw (c.in-Some.ensures, c.in-Some-flag.ensures, c.in_default-flag-2.ensures)
 
 pub returns : goal.returns
 unfolding read_ref
