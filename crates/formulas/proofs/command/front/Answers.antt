@@ -2,8 +2,8 @@ use Rattle.std.proofs.Common.{◌≡◌, refl, arith}
 use Rattle.formulas.proofs.Telling.{moved_partly, no_command_tag}
 use Rattle.formulas.proofs.command.front.Goals as goal
 
-pub returns-in-default : goal.returns-in-default
-returns-in-default c = rw c.in-default.ensures
+pub returns-in_default : goal.returns-in_default
+returns-in_default c = rw c.in_default.ensures
 
 pub returns-in-1 : goal.returns-in-1
 returns-in-1 c = rw (c.in-Some.ensures, c.in-1.is) c.set.ensures
@@ -32,5 +32,5 @@ returns-in-Some-stretch c = rw c.in-Some.ensures (moved_partly c.in-Some.tag _ _
 pub returns-in-10 : goal.returns-in-10
 returns-in-10 c = rw (c.in-Some.ensures, c.in-10.is) c.copied.ensures
 
-pub returns-in-default-tag : goal.returns-in-default-tag
-returns-in-default-tag c = rw c.in-Some.ensures (no_command_tag c.in-Some.tag c.in-Some.rest.now (omega arith) (omega arith) (omega arith) (omega arith) (omega arith) (omega arith) (omega arith) (omega arith) (omega arith) (omega arith))
+pub returns-in_default-tag : goal.returns-in_default-tag
+returns-in_default-tag c = rw c.in-Some.ensures (no_command_tag c.in-Some.tag c.in-Some.rest.now (omega arith) (omega arith) (omega arith) (omega arith) (omega arith) (omega arith) (omega arith) (omega arith) (omega arith) (omega arith))

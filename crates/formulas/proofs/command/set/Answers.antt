@@ -3,16 +3,16 @@ use Rattle.std.proofs.lemmas.Bool.{le-leb, lt-leb}
 use Rattle.plain.specs.Read.{only}
 use Rattle.formulas.proofs.command.set.Goals as goal
 
-pub returns-in-default : goal.returns-in-default
-returns-in-default c = rw c.in-default.ensures
+pub returns-in_default : goal.returns-in_default
+returns-in_default c = rw c.in_default.ensures
 
 pub returns-then-rest-gt-LONGEST : goal.returns-then-rest-gt-LONGEST
 unfolding only
 returns-then-rest-gt-LONGEST c = rw (c.in-Some.ensures, lt-leb _ 1024 c.if-rest-gt-LONGEST.true)
 
-pub returns-in-default-formula : goal.returns-in-default-formula
+pub returns-in_default-formula : goal.returns-in_default-formula
 unfolding only
-returns-in-default-formula c = rw (c.in-Some.ensures, le-leb _ 1024 c.if-rest-gt-LONGEST.false, c.in-default-formula.ensures)
+returns-in_default-formula c = rw (c.in-Some.ensures, le-leb _ 1024 c.if-rest-gt-LONGEST.false, c.in_default-formula.ensures)
 
 pub returns-then-core : goal.returns-then-core
 unfolding only

@@ -1,8 +1,8 @@
 use Rattle.std.proofs.Common.{◌≡◌, refl}
 use Rattle.formulas.proofs.command.wipe.Goals as goal
 
-pub returns-in-default : goal.returns-in-default
-returns-in-default c = rw c.in-default.ensures
+pub returns-in_default : goal.returns-in_default
+returns-in_default c = rw c.in_default.ensures
 
 pub returns : goal.returns
 returns c = rw c.in-Some.ensures (_, refl, refl)

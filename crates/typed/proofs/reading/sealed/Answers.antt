@@ -6,4 +6,4 @@ use Rattle.typed.proofs.reading.sealed.Goals as goal
 
 pub returns-in-Some : goal.returns-in-Some
 returns-in-Some c =
-    sound _ _ (ap (λ bs. answer_to_lem (told bs)) (sym c.as-slice.ensures.value) ∙ ap answer_to_lem (sym c.read_command.ensures) ∙ sym c.in-Some.ensures)
+    sound _ _ (ap (λ bs. answer_to_lem (told bs)) (sym c.as_slice.ensures.value) ∙ ap answer_to_lem (sym c.read_command.ensures) ∙ sym c.in-Some.ensures)

@@ -8,17 +8,17 @@ use Rattle.lines.proofs.line.Line.from_bytes.Goals as goal
 by_words : (l ws : List ℕ) → ws ≡ words_in (tidy l) → bytes_of ws ≡ tidy l
 by_words l ws e = ap bytes_of e ∙ tidy_back l
 
-pub returns-then-bytes-ne-LINE-BYTES : goal.returns-then-bytes-ne-LINE-BYTES
-returns-then-bytes-ne-LINE-BYTES c =
+pub returns-then-bytes-ne-LINE_BYTES : goal.returns-then-bytes-ne-LINE_BYTES
+returns-then-bytes-ne-LINE_BYTES c =
     let l = c.args.bytes.now in
-    let w = sym (ap words_in (no_line l c.if-bytes-ne-LINE-BYTES.true) ∙ blank_words) in
+    let w = sym (ap words_in (no_line l c.if-bytes-ne-LINE_BYTES.true) ∙ blank_words) in
     record { words = w; line = by_words l _ w }
 
 pub returns : goal.returns
 unfolding words_in
 returns c =
     let l = c.args.bytes.now in
-    let t = line_back l c.if-bytes-ne-LINE-BYTES.false (typed_bytes l c.type_inv.bytes) in
+    let t = line_back l c.if-bytes-ne-LINE_BYTES.false (typed_bytes l c.type_inv.bytes) in
     let w : _ ≡ words_in (tidy l) =
-    rw (t, c.word-from.ensures, c.word-from-2.ensures, c.word-from-3.ensures, c.word-from-4.ensures, c.word-from-5.ensures, c.word-from-6.ensures, c.word-from-7.ensures, c.word-from-8.ensures)
+    rw (t, c.word_from.ensures, c.word_from-2.ensures, c.word_from-3.ensures, c.word_from-4.ensures, c.word_from-5.ensures, c.word_from-6.ensures, c.word_from-7.ensures, c.word_from-8.ensures)
     in record { words = w; line = by_words l _ w }

@@ -11,8 +11,8 @@ loop-i-init c = refl
 pub loop-i-preserved : goal.loop-i-preserved
 loop-i-preserved c =
     let l : length c.args.self.now.words ≡ 8 = search rules in
-    line_again c.args.self.now.words c.args.out.now c.loop-i.out c.copy-from-slice.new.self c.loop-i.i _
-    (omega (arith, c.loop-i-test.true)) c.loop-i.invariant (c.copy-from-slice.ensures.after ∙ (c.to-be-bytes.ensures ∙ eight_is _)) (omega arith)
+    line_again c.args.self.now.words c.args.out.now c.loop-i.out c.copy_from_slice.new.self c.loop-i.i _
+    (omega (arith, c.loop-i-test.true)) c.loop-i.invariant (c.copy_from_slice.ensures.after ∙ (c.to_be_bytes.ensures ∙ eight_is _)) (omega arith)
 
 pub returns : goal.returns
 returns c =

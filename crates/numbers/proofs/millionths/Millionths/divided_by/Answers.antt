@@ -7,8 +7,8 @@ use Rattle.numbers.proofs.millionths.Millionths.divided_by.Goals as goal
 pub returns-then-divisor-eq0 : goal.returns-then-divisor-eq0
 returns-then-divisor-eq0 c = zero_so c.count-divisor.result _ _ c.count-divisor.ensures (sym (to_z-of_z w64 c.count-divisor.result (record { sfits = c.count-divisor.type_inv })) ∙ ap (to_z w64) c.if-divisor-eq0.true)
 
-pub nonzero-div-count : goal.nonzero-div-count
-nonzero-div-count c =
+pub nonzero_div-count : goal.nonzero_div-count
+nonzero_div-count c =
     divisor_so c.count.result c.count-divisor.result _ _ empty (record { sfits = c.count.type_inv }) (record { sfits = c.count-divisor.type_inv }) c.count.ensures c.count-divisor.ensures (λ e. c.if-divisor-eq0.false (ap (of_z w64) e))
 
 pub returns : goal.returns
