@@ -6,14 +6,13 @@ mod answers;
 use answers::answer;
 use host::machine::Machine;
 use std::io;
+use std::io::IsTerminal;
 use typed::reading::{Line, read_line};
 
 // The smallest device that the engine is made for.
 const LINES: usize = 8192;
 // More than any command needs: every command ends.
 const MOST_ACTS: u64 = 1 << 62;
-
-const STANDARD_INPUT: i32 = 0;
 
 const HELP: &str = "\
 set A1 FORMULA       write a formula or a constant: 12.5, 'cod', true, B1 * C1, sum(A1:A9)
@@ -62,7 +61,7 @@ fn prompt(rt: &HostRuntime, typing: bool) -> io::Result<()> {
 }
 
 fn session(rt: &HostRuntime) -> anyhow::Result<()> {
-    let typing = libc::isatty(STANDARD_INPUT) == 1;
+    let typing = rt.stdin().is_terminal();
     let mut machine = Machine::new(rt.alloc(), LINES)?;
     machine.power(rt.alloc(), MOST_ACTS)?;
     prompt(rt, typing)?;

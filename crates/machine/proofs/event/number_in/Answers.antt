@@ -3,8 +3,8 @@ use Rattle.std.proofs.lemmas.List.{length-take}
 use Rattle.machine.proofs.Numbers.{pow_few, pow_more, from_more, from_all}
 use Rattle.machine.proofs.event.number_in.Goals as goal
 
-pub overflow-mul-n : goal.overflow-mul-n
-overflow-mul-n c = let h = pow_few c.loop-i.i c.loop-i.n (omega arith) c.loop-i.invariant.0 in omega arith
+pub overflow_mul-n : goal.overflow_mul-n
+overflow_mul-n c = let h = pow_few c.loop-i.i c.loop-i.n (omega arith) c.loop-i.invariant.0 in omega arith
 
 pub loop-i-preserved : goal.loop-i-preserved
 loop-i-preserved c =

@@ -7,4 +7,4 @@ unfolding pushed
 returns c =
     let n = c.min-answers.result in
     let z : 131272 + 8 * n + 8 - (131272 + 8 * n) ≡ 8 = omega arith in
-    rw (z, c.copy-from-slice.ensures.after, c.min-answers.ensures)
+    rw (z, c.copy_from_slice.ensures.after, c.min-answers.ensures)

@@ -13,12 +13,12 @@ returns-in-On g c =
 
 pub returns-in-Said : goal.returns-in-Said
 returns-in-Said g c =
-    fit g.S.Stages.model _ _ _ _ _ _ _ _ _ (sym c.if-not-fits.ensures.is) (c.if-not-fits.ensures.sizes refl).0 c.in-Said.ensures c.hear-out.ensures
+    fit g.S.Stages.model _ _ _ _ _ _ _ _ _ (sym c.if-not-fits.ensures.is) (c.if-not-fits.ensures.sizes refl).0 c.in-Said.ensures c.hear_out.ensures
 
 pub returns-in-Line : goal.returns-in-Line
 returns-in-Line g c =
     fit g.S.Stages.model _ _ _ _ _ _ _ _ _ (sym c.if-not-fits.ensures.is) (c.if-not-fits.ensures.sizes refl).0 c.in-Line.ensures
-    (answered_so g.S.Stages.model _ _ _ _ _ _ _ c.from-bytes.ensures.words c.answer.ensures)
+    (answered_so g.S.Stages.model _ _ _ _ _ _ _ c.from_bytes.ensures.words c.answer.ensures)
 
 pub returns-in-Next : goal.returns-in-Next
 returns-in-Next g c =

@@ -13,7 +13,7 @@ unfolding ActTold
 returns-in-Store c =
     let l : length c.in-Store.line.words ≡ 8 = search rules in
     let n : length (line_of c.in-Store.line) ≡ 64 = length_bytes c.in-Store.line.words ∙ ap (λ i. 8 * i) l in
-    rw (c.in-Store.is, n) (refl, c.write-to.ensures)
+    rw (c.in-Store.is, n) (refl, c.write_to.ensures)
 
 pub returns-in-Settle : goal.returns-in-Settle
 unfolding ActTold
@@ -21,4 +21,4 @@ returns-in-Settle c = rw c.in-Settle.is (refl, refl)
 
 pub returns-in-Show : goal.returns-in-Show
 unfolding ActTold
-returns-in-Show c = rw c.in-Show.is (rw c.write-to-in-Show.ensures.long (refl, c.write-to-in-Show.ensures.row))
+returns-in-Show c = rw c.in-Show.is (rw c.write_to-in-Show.ensures.long (refl, c.write_to-in-Show.ensures.row))

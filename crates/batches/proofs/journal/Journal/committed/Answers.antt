@@ -3,13 +3,13 @@ use Rattle.lines.proofs.Tapes.{left, read_stops}
 use Rattle.batches.proofs.Runs.{committed_none, committed_some}
 use Rattle.batches.proofs.journal.Journal.committed.Goals as goal
 
-pub returns-in-err-read : goal.returns-in-err-read
-returns-in-err-read c = left (λ a. a) _ _ _ _ c.from-residual.ensures.1 (read_stops _ _ _ _ c.in-err-read.ensures)
+pub returns-in_err-read : goal.returns-in_err-read
+returns-in_err-read c = left (λ a. a) _ _ _ _ c.from_residual.ensures.1 (read_stops _ _ _ _ c.in_err-read.ensures)
 
 pub returns-then-entries-from : goal.returns-then-entries-from
 returns-then-entries-from c =
-    committed_none c.args.self.most_entries _ _ _ c.in-ok-read.ensures c.number-entries.result c.number-entries.ensures (omega arith)
+    committed_none c.args.self.most_entries _ _ _ c.in_ok-read.ensures c.number-entries.result c.number-entries.ensures (omega arith)
 
 pub returns : goal.returns
 returns c =
-    committed_some c.args.self.most_entries _ _ _ c.in-ok-read.ensures c.number-entries.result c.number-entries.ensures (omega arith)
+    committed_some c.args.self.most_entries _ _ _ c.in_ok-read.ensures c.number-entries.result c.number-entries.ensures (omega arith)

@@ -10,11 +10,11 @@ pub loop-i-init : goal.loop-i-init
 loop-i-init c = let z : c.args.entries - 0 ≡ c.args.entries = omega arith in rw z
 
 pub loop-i-preserved : goal.loop-i-preserved
-loop-i-preserved c = redo_turn _ _ _ _ c.loop-i-test.true _ _ c.loop-i.invariant _ c.in-ok-reapply.ensures
+loop-i-preserved c = redo_turn _ _ _ _ c.loop-i-test.true _ _ c.loop-i.invariant _ c.in_ok-reapply.ensures
 
-pub returns-in-err-reapply : goal.returns-in-err-reapply
-returns-in-err-reapply c =
-    left (λ a. a) _ _ _ _ c.from-residual.ensures.1 (redo_left _ _ _ _ c.loop-i-test.true _ _ c.loop-i.invariant _ c.in-err-reapply.ensures)
+pub returns-in_err-reapply : goal.returns-in_err-reapply
+returns-in_err-reapply c =
+    left (λ a. a) _ _ _ _ c.from_residual.ensures.1 (redo_left _ _ _ _ c.loop-i-test.true _ _ c.loop-i.invariant _ c.in_err-reapply.ensures)
 
 pub returns : goal.returns
 returns c = redo_done _ _ _ _ _ _ c.loop-i-test.false c.loop-i.invariant

@@ -6,4 +6,4 @@ pub returns-in-Ended : goal.returns-in-Ended
 returns-in-Ended c w ss = ends_so own 0 c.args.self.now w ss _ _ c.in-Ended.is
 
 pub returns : goal.returns
-returns c w ss = stays_so own c.args.self.now w ss _ _ c.in-default.not-Ended c.lines.ensures
+returns c w ss = stays_so own c.args.self.now w ss _ _ c.in_default.not-Ended c.lines.ensures

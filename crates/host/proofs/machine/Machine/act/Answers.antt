@@ -7,4 +7,4 @@ pub returns : goal.returns
 returns c =
     rw (acts (device_of c.args.self.now.device) c.args.kind _ _ (vec_items c.args.self.now.memory) _ _ (vec_items c.args.self.now.row) _ _ _ _ c.requires
     c.args.self.now.memory.ok.0 c.args.self.now.sizes.0 c.args.self.now.row.ok.0 c.args.self.now.sizes.1
-    c.deref-mut.ensures.value c.deref-mut-2.ensures.value c.step-told.auto.memory c.step-told.auto.out c.step-told.ensures) c.carry-out.ensures
+    c.deref_mut.ensures.value c.deref_mut-2.ensures.value c.step-told.auto.memory c.step-told.auto.out c.step-told.ensures) c.carry_out.ensures

@@ -6,5 +6,5 @@ use Rattle.host.proofs.machine.Machine.go_on.Given as goal
 
 abbrev pub invariant-loop-done : goal.invariant-loop-done
 invariant-loop-done l =
-    (l.lines_used ≤ l.done) × (carried (l.more-acts - l.done) own (rows_of l.shown) l.lines_used (out_of l.after (world_of l.self) [])
-    ≡ carried l.more-acts own (rows_of l.initial.shown) 0 (out_of l.initial.after (world_of l.initial.self) []))
+    (l.lines_used ≤ l.done) × (carried (l.more_acts - l.done) own (rows_of l.shown) l.lines_used (out_of l.after (world_of l.self) [])
+    ≡ carried l.more_acts own (rows_of l.initial.shown) 0 (out_of l.initial.after (world_of l.initial.self) []))

@@ -4,11 +4,11 @@ use Rattle.host.specs.Model.{rows_of, world_of}
 use Rattle.host.proofs.Powers.{none_run, all_run}
 use Rattle.host.proofs.machine.Machine.run.Goals as goal
 
-pub returns-then-most-acts-eq0 : goal.returns-then-most-acts-eq0
-returns-then-most-acts-eq0 c = none_run _ _ _ _ c.if-most-acts-eq0.true (ap (each vec_items) c.new-shown.ensures.items)
+pub returns-then-most_acts-eq0 : goal.returns-then-most_acts-eq0
+returns-then-most_acts-eq0 c = none_run _ _ _ _ c.if-most_acts-eq0.true (ap (each vec_items) c.new-shown.ensures.items)
 
 pub returns : goal.returns
 returns c =
-    let a = c.in-ok-first.ensures in
-    all_run _ _ (world_of c.act.new.self) _ c.in-ok-first.first (rows_of c.new-shown.result) (rows_of c.act.new.shown) a.0 _ c.if-most-acts-eq0.false (ap (each vec_items) c.new-shown.ensures.items) a.1 a.2
-    c.in-ok-tally.ensures
+    let a = c.in_ok-first.ensures in
+    all_run _ _ (world_of c.act.new.self) _ c.in_ok-first.first (rows_of c.new-shown.result) (rows_of c.act.new.shown) a.0 _ c.if-most_acts-eq0.false (ap (each vec_items) c.new-shown.ensures.items) a.1 a.2
+    c.in_ok-tally.ensures

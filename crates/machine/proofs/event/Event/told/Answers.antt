@@ -3,7 +3,7 @@ use Rattle.machine.proofs.Tells.{told_on, told_said, told_line, told_next}
 use Rattle.machine.proofs.event.Event.told.Goals as goal
 
 pub returns-in-0 : goal.returns-in-0
-returns-in-0 c = told_on _ _ _ c.in-0.is c.number-in.ensures
+returns-in-0 c = told_on _ _ _ c.in-0.is c.number_in.ensures
 
 pub returns-in-1 : goal.returns-in-1
 returns-in-1 c = told_said _ _ c.in-1.is
@@ -11,5 +11,5 @@ returns-in-1 c = told_said _ _ c.in-1.is
 pub returns-in-2 : goal.returns-in-2
 returns-in-2 c = told_line _ _ c.in-2.is
 
-pub returns-in-default : goal.returns-in-default
-returns-in-default c = told_next _ _ (omega arith) (omega arith) (omega arith)
+pub returns-in_default : goal.returns-in_default
+returns-in_default c = told_next _ _ (omega arith) (omega arith) (omega arith)
