@@ -3,7 +3,8 @@ use crate::notation::bytes;
 use formulas::command::{Command, Refusal, read_command};
 use spelling::place::{Area, Place};
 use std::alloc::{AllocError, Global};
-use std::test::*;
+use std::process::Abort;
+use std::test::Fail;
 
 fn only(place: Place) -> Area {
     Area {
@@ -32,19 +33,19 @@ fn told(heap: Global, code: &[u8]) -> Result<String, AllocError> {
     )
 }
 
-fn hold_line(rt: &HostRuntime, line: &str) -> Result<(), Fail> {
+fn hold_line(rt: &impl Abort, heap: Global, line: &str) -> Result<(), Fail> {
     let Some((expected, code)) = line.split_once(':') else {
         return Err(Fail::new("a line without a colon"));
     };
-    let code = bytes(rt, code)?;
-    let found = told(rt.alloc(), code.as_slice())?;
-    assert_eq!(found.as_str(), expected);
+    let code = bytes(heap, code)?;
+    let found = told(heap, code.as_slice())?;
+    assert_eq!(rt; found.as_str(), expected, "{line}");
     Ok(())
 }
 
-fn hold(rt: &HostRuntime, table: &str) -> Result<(), Fail> {
+fn hold(rt: &impl Abort, heap: Global, table: &str) -> Result<(), Fail> {
     for line in table.lines() {
-        hold_line(rt, line).note(line)?;
+        hold_line(rt, heap, line)?;
     }
     Ok(())
 }
@@ -70,7 +71,7 @@ malformed:";
 
 #[test]
 fn each_kind_of_command(rt: HostRuntime) -> Result<(), Fail> {
-    hold(&rt, COMMANDS)
+    hold(&rt, rt.alloc(), COMMANDS)
 }
 
 // Each formula is that of the cell with the column 1 and the row 2.
@@ -107,7 +108,7 @@ malformed: 1 1 #2";
 
 #[test]
 fn each_kind_of_formula(rt: HostRuntime) -> Result<(), Fail> {
-    hold(&rt, FORMULAS)
+    hold(&rt, rt.alloc(), FORMULAS)
 }
 
 // Depth, bytes, values, text, numbers, operators and functions.
@@ -131,7 +132,7 @@ malformed: 1 0 #0 7 10 1 0 3 1";
 
 #[test]
 fn limits_of_formulas(rt: HostRuntime) -> Result<(), Fail> {
-    hold(&rt, FORMULA_LIMITS)
+    hold(&rt, rt.alloc(), FORMULA_LIMITS)
 }
 
 // The last row, 4,096 places, corners the right way round, rows and columns, and places to copy to.
@@ -159,7 +160,7 @@ malformed: 10 2 #3 1 #6 7 #8";
 
 #[test]
 fn limits_of_commands(rt: HostRuntime) -> Result<(), Fail> {
-    hold(&rt, COMMAND_LIMITS)
+    hold(&rt, rt.alloc(), COMMAND_LIMITS)
 }
 
 // Length, and the bytes next to letters, digits and the underscore.
@@ -179,7 +180,7 @@ malformed: 7 #2 97 45";
 
 #[test]
 fn limits_of_names(rt: HostRuntime) -> Result<(), Fail> {
-    hold(&rt, NAME_LIMITS)
+    hold(&rt, rt.alloc(), NAME_LIMITS)
 }
 
 fn is_malformed(code: &[u8]) -> bool {
@@ -192,9 +193,9 @@ const LONG: &str =
 // A command that is cut short anywhere is none.
 #[test]
 fn cut_short(rt: HostRuntime) -> Result<(), Fail> {
-    let code = bytes(&rt, LONG)?;
+    let code = bytes(rt.alloc(), LONG)?;
     for end in 0..code.len() {
-        assert!(rt; is_malformed(&code.as_slice()[0..end]), "{}", end);
+        assert!(rt; is_malformed(&code.as_slice()[0..end]), "{end}");
     }
     assert!(rt; !is_malformed(code.as_slice()));
     Ok(())

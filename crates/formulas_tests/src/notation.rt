@@ -1,5 +1,6 @@
 // A notation for bytes: `7` is one byte, `#7` a number of eight bytes, and `7*3` is three bytes.
-use std::test::*;
+use std::alloc::Global;
+use std::test::Fail;
 
 fn add(code: &mut Vec<u8>, word: &str) -> Result<(), Fail> {
     if let Some(number) = word.strip_prefix('#') {
@@ -14,8 +15,8 @@ fn add(code: &mut Vec<u8>, word: &str) -> Result<(), Fail> {
     Ok(())
 }
 
-pub fn bytes(rt: &HostRuntime, line: &str) -> Result<Vec<u8>, Fail> {
-    let mut code = Vec::new(rt.alloc());
+pub fn bytes(heap: Global, line: &str) -> Result<Vec<u8>, Fail> {
+    let mut code = Vec::new(heap);
     for word in line.split_whitespace() {
         add(&mut code, word)?;
     }

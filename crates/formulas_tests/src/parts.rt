@@ -2,7 +2,7 @@
 use spelling::bytes::number;
 use spelling::constant::Constant;
 use spelling::place::Reference;
-use std::test::*;
+use std::test::Fail;
 
 #[test]
 fn highest_byte_first(rt: HostRuntime) -> Result<(), Fail> {
@@ -58,7 +58,7 @@ fn parts_of_texts(rt: HostRuntime) -> Result<(), Fail> {
     ]) else {
         return Err(Fail::new("refused"));
     };
-    assert_eq!(rt; text, b"hi");
+    assert_eq!(rt; text, b"hi".as_slice());
     assert_eq!(rt; rest.len(), 1);
     Ok(())
 }

@@ -33,7 +33,7 @@ fn command(heap: Global, line: &str) -> Result<Vec<u8>, Fail> {
 fn hold_bytes(rt: &impl Abort, heap: Global, line: &str, words: &str) -> Result<(), Fail> {
     let found = command(heap, line)?;
     let expected = bytes(heap, words)?;
-    assert!(rt; found.as_slice() == expected.as_slice());
+    assert!(rt; found.as_slice() == expected.as_slice(), "{line}");
     Ok(())
 }
 
@@ -42,7 +42,7 @@ fn hold_refusal(rt: &impl Abort, heap: Global, line: &str, words: &str) -> Resul
         Ok(_) => Err(Fail::new("it was read")),
         Err(e) => {
             let found = e.to_string(heap)?;
-            assert_eq!(rt; found.as_str(), words);
+            assert_eq!(rt; found.as_str(), words, "{line}");
             Ok(())
         }
     }
@@ -134,7 +134,7 @@ set A1 --------------------------------A1 => expected a formula less deep, of at
 fn commands_become_bytes(rt: HostRuntime) -> Result<(), Fail> {
     for case in COMMANDS.lines() {
         let (line, words) = case.split_once(" => ").unwrap_or((case, ""));
-        hold_bytes(&rt, rt.alloc(), line, words).note(case)?;
+        hold_bytes(&rt, rt.alloc(), line, words)?;
     }
     Ok(())
 }
@@ -146,7 +146,7 @@ fn formulas_become_bytes(rt: HostRuntime) -> Result<(), Fail> {
         let (formula, words) = case.split_once(" => ").unwrap_or((case, ""));
         let line = format!(in heap; "set A1 {formula}")?;
         let words = format!(in heap; "1 0 #0 {words}")?;
-        hold_bytes(&rt, heap, line.as_str(), words.as_str()).note(case)?;
+        hold_bytes(&rt, heap, line.as_str(), words.as_str())?;
     }
     Ok(())
 }
@@ -159,7 +159,7 @@ fn hold_again(rt: &impl Abort, heap: Global, formula: &str) -> Result<(), Fail> 
     let printed = formula_text(heap, spelled)?;
     let line = format!(in heap; "set A1 {printed}")?;
     let again = command(heap, line.as_str())?;
-    assert!(rt; first.as_slice() == again.as_slice());
+    assert!(rt; first.as_slice() == again.as_slice(), "{formula}");
     Ok(())
 }
 
@@ -167,7 +167,7 @@ fn hold_again(rt: &impl Abort, heap: Global, formula: &str) -> Result<(), Fail> 
 fn printed_formulas_are_read_again(rt: HostRuntime) -> Result<(), Fail> {
     for case in FORMULAS.lines().chain(DEEP.lines()) {
         let (formula, _) = case.split_once(" => ").unwrap_or((case, ""));
-        hold_again(&rt, rt.alloc(), formula).note(case)?;
+        hold_again(&rt, rt.alloc(), formula)?;
     }
     Ok(())
 }
@@ -190,7 +190,7 @@ fn values_are_printed(rt: HostRuntime) -> Result<(), Fail> {
         let (words, text) = case.split_once(" => ").unwrap_or((case, ""));
         let row = bytes(heap, words)?;
         let found = value_text(heap, row.as_slice())?;
-        assert_eq!(rt; found.as_str(), text, "{}", case);
+        assert_eq!(rt; found.as_str(), text, "{case}");
     }
     Ok(())
 }
@@ -199,7 +199,7 @@ fn values_are_printed(rt: HostRuntime) -> Result<(), Fail> {
 fn refusals_say_where(rt: HostRuntime) -> Result<(), Fail> {
     for case in REFUSALS.lines() {
         let (line, words) = case.split_once(" => ").unwrap_or((case, ""));
-        hold_refusal(&rt, rt.alloc(), line, words).note(case)?;
+        hold_refusal(&rt, rt.alloc(), line, words)?;
     }
     Ok(())
 }
