@@ -1,11 +1,11 @@
 -- What the journal's lines are in words, and how its steps and loops are put together from those of the tape.
-use Rattle.std.proofs.Common.{◌≡◌, ℕ, zero, suc, ◌+◌, ◌-◌, ◌*◌, ◌<◌, ◌≤◌, Bool, true, false, ◌&&◌, leb, List, [], ◌∷◌, length, get_or, take, drop, sym, refl, ap, ◌∙◌, subst, arith}
+use Rattle.std.proofs.Common.{◌≡◌, ℕ, zero, suc, ◌+◌, ◌-◌, ◌*◌, ◌<◌, ◌≤◌, Bool, List, [], ◌∷◌, length, get_or, take, drop, sym, refl, ap, ◌∙◌, subst, arith}
 use Rattle.std.proofs.lemmas.Bool.{le-leb, lt-leb}
 use Rattle.std.proofs.lemmas.List.{drop_more, drop_all}
-use Rattle.plain.specs.Device.{Line, so_many_of}
+use Rattle.plain.specs.Device.{Line}
 use Rattle.plain.specs.Read.{number}
 use Rattle.plain.specs.Run.{Act, read, store, settle}
-use Rattle.plain.specs.Term.{pick, eight}
+use Rattle.plain.specs.Term.{pick}
 use Rattle.programs.specs.Prog.{Prog, ret, ask, bind, Out, came, wants, replay}
 use Rattle.guarded_journal.specs.Journal.{Write, word, word_line}
 use Rattle.guarded_journal.specs.Programs.{write, log, log_all, apply, apply_all, commit, clear, batch, committed, is_durable_lem, put_back, reapply, reapply_all, recover, recover_so}

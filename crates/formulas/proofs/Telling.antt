@@ -5,7 +5,7 @@ use Rattle.std.proofs.lemmas.Bool.{cases_lt, le-ltb}
 use Rattle.plain.specs.Term.{pick, eight, Term, opposite}
 use Rattle.plain.specs.Commands as plain
 use Rattle.plain.specs.Commands.{core, core_term, term_spelled}
-use Rattle.plain.specs.Promise.{Said, Never}
+use Rattle.plain.specs.Promise.{Said}
 use Rattle.plain.specs.Read.{Behind, Got, got, nothing, then, term_tag, read_stretch, command_tag, whole, read_command}
 use Rattle.plain.proofs.EightBytes.{eight_long}
 use Rattle.plain.proofs.Reading.{said_of, unsaid}

@@ -1,20 +1,20 @@
 -- The journal's phases as loops over stages, an entry to a stage; and how short each program is.
-use Rattle.std.proofs.Common.{◌≡◌, ℕ, zero, suc, ◌+◌, ◌*◌, ◌<◌, ◌≤◌, Bool, true, false, ◌⊎◌, List, [], ◌∷◌, ◌++◌, length, sym, refl, ap, ◌∙◌, subst, ap₂, inl, inr, append_assoc, append-nil, suc-mul, arith, length-append}
+use Rattle.std.proofs.Common.{◌≡◌, ℕ, zero, suc, ◌+◌, ◌*◌, ◌<◌, ◌≤◌, Bool, true, false, List, [], ◌∷◌, ◌++◌, length, sym, refl, ap, ◌∙◌, subst, inl, inr, append_assoc, append-nil, suc-mul, arith, length-append}
 use Rattle.plain.specs.Term.{pick}
 use Rattle.guarded_journal.proofs.Holds.{committed_is}
-use Rattle.plain.specs.Device.{Device, Line, storing, a_line, line_at, set_line}
-use Rattle.plain.specs.Run.{Act, read, store, settle}
+use Rattle.plain.specs.Device.{Device, Line, a_line, line_at}
+use Rattle.plain.specs.Run.{read}
 use Rattle.programs.specs.Prog.{Prog, ret, ask, bind, Short}
-use Rattle.programs.proofs.Programs.{short_more, short_bind}
-use Rattle.programs.specs.Machine.{Machine, Next, then, over, At, at, answer, after, Safe, Going, asks, turns, halts}
-use Rattle.programs.proofs.Rules.{tidy_is, safe_weak, safe_bind}
+use Rattle.programs.proofs.Programs.{short_bind}
+use Rattle.programs.specs.Machine.{Machine, Next, then, At, at, answer, after, Safe, Going, asks, turns}
+use Rattle.programs.proofs.Rules.{tidy_is, safe_weak}
 use Rattle.plain.specs.Stopping.{seen, stop, Always, Is}
 use Rattle.plain.proofs.Stops.{always_seen, always_quiet}
-use Rattle.guarded_journal.specs.Journal.{Write, written, word, word_line, Layout, first, Logged, Good, Sound, Marks, Survives, Ready, Committed}
+use Rattle.guarded_journal.specs.Journal.{Write, written, word, word_line, Layout, first, Logged, Good, Marks, Survives, Ready, Committed}
 use Rattle.guarded_journal.specs.Programs.{Stable, write, log, log_all, commit, apply, apply_all, clear, is_durable_lem, reapply, reapply_all, committed, After}
 use Rattle.guarded_journal.specs.Promises.{Holds, Either}
 use Rattle.guarded_journal.proofs.Lines.{good_at, idle_survives}
-use Rattle.guarded_journal.proofs.Commit.{and_then, after_is, log_safe, commit_safe, reapply_safe, clear_safe}
+use Rattle.guarded_journal.proofs.Commit.{log_safe, commit_safe, reapply_safe, clear_safe}
 
 abbrev pub Any : {A : Type 0} → A → Type 0
 Any a = Unit {0}

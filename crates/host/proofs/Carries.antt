@@ -1,17 +1,16 @@
 -- From what a step tells to what plain's run does: the two agree on every act.
-use Rattle.std.proofs.Common.{◌≡◌, ℕ, zero, suc, ◌+◌, ◌≤◌, Bool, true, false, ◌&&◌, eqb, ltb, List, [], ◌∷◌, ◌++◌, length, take, drop, sym, refl, ap, ◌∙◌, subst, ap₂, append-nil, add-zero, add-one, arith}
+use Rattle.std.proofs.Common.{◌≡◌, ℕ, suc, ◌+◌, ◌≤◌, Bool, true, false, ◌&&◌, eqb, ltb, List, [], ◌∷◌, ◌++◌, length, take, drop, sym, refl, ap, ◌∙◌, subst, ap₂, append-nil, add-zero, add-one, arith}
 use Rattle.std.proofs.lemmas.List.{take_at}
 use Rattle.std.proofs.lemmas.Bool.{and_parts, eqb-true}
 use Rattle.plain.specs.Term.{pick}
 use Rattle.plain.specs.Device.{Device, a_line, storing}
-use Rattle.plain.specs.Run.{World, Engine, Event, next, Act, read, store, settle, shows, done, refused, Ran, in_memory, on_device, storable, runs, one_act, ran}
+use Rattle.plain.specs.Run.{World, Engine, Event, next, Act, read, store, settle, shows, done, refused, in_memory, on_device, storable, runs, one_act, ran}
 use Rattle.sheet.specs.declared.Told.{Told}
-use Rattle.sheet.specs.declared.Told.TheVariants.{Read, Store, Settle, Shows, Done, No}
 use Rattle.sheet.specs.Entry.{ActTold, StepSays, event_of, own, step_fits}
 use Rattle.sheet.specs.Stores.{StoresLines}
 use Rattle.sheet.proofs.Steps.{fits_so, stores_lines}
 use Rattle.device.proofs.Seen.{lent_back}
-use Rattle.host.specs.Acts.{Out, going, ended, acted, acted_by, carried, carried_out}
+use Rattle.host.specs.Acts.{going, ended, acted, acted_by, carried, carried_out}
 
 -- the lent row holds what was stored or shown
 row_holds : (p out out₁ : List ℕ) (n : ℕ) → n ≡ length p → out₁ ≡ p ++ drop (length p) out → take n out₁ ≡ p

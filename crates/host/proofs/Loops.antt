@@ -1,9 +1,9 @@
 -- The loop over acts, by plain's run: one act more, the end, and no more acts.
-use Rattle.std.proofs.Common.{◌≡◌, ℕ, zero, suc, ◌+◌, ◌-◌, ◌<◌, ◌≤◌, List, [], ◌∷◌, ◌++◌, sym, refl, ap, ◌∙◌, ap₂, append-nil, add-zero, arith}
-use Rattle.plain.specs.Run.{World, Engine, Event, line, next, ran, runs}
+use Rattle.std.proofs.Common.{◌≡◌, ℕ, suc, ◌+◌, ◌-◌, ◌<◌, ◌≤◌, List, [], ◌++◌, sym, refl, ap, ◌∙◌, ap₂, append-nil, arith}
+use Rattle.plain.specs.Run.{World, Engine, line, next, ran, runs}
 use Rattle.host.specs.declared.machine.After.{After}
 use Rattle.host.specs.declared.machine.After.TheVariants.{Line, NoLine, Stored, Next, Ended}
-use Rattle.host.specs.Acts.{Out, going, ended, acted_by, carried, out_of, told_after, lines_of}
+use Rattle.host.specs.Acts.{acted_by, carried, out_of, told_after, lines_of}
 use Rattle.host.proofs.Carries.{runs_carried}
 
 abbrev pub Going : After → Type 0

@@ -1,6 +1,6 @@
 -- Power: the number of lines as eight bytes, memory as at the start; and a command as a whole.
-use Rattle.std.proofs.Common.{◌≡◌, ℕ, zero, suc, ◌+◌, ◌-◌, ◌*◌, ◌/◌, ◌%◌, ◌<◌, List, [], ◌∷◌, ◌++◌, length, take, replicate, sym, refl, ap, ◌∙◌, ap₂, append-nil, arith}
-use Rattle.plain.specs.Device.{Device, so_many_of}
+use Rattle.std.proofs.Common.{◌≡◌, ℕ, zero, suc, ◌-◌, ◌/◌, ◌%◌, ◌<◌, List, [], ◌∷◌, ◌++◌, length, take, replicate, sym, refl, ap, ◌∙◌, ap₂, arith}
+use Rattle.plain.specs.Device.{Device}
 use Rattle.plain.specs.Run.{World, Ran, Event, on, ran, runs, woken}
 use Rattle.sheet.specs.Entry.{event_of, from_eight, own}
 use Rattle.device.proofs.Seen.{many_replicated}

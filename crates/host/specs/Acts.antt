@@ -1,5 +1,5 @@
 -- One act on its own: what plain's run does with it, and what the code's machine does when it is told of it. Assumes nothing: these are definitions.
-use Rattle.std.specs.Prelude.{ℕ, zero, suc, ◌+◌, List, [], ◌∷◌, ◌++◌, length, take, nat_lt}
+use Rattle.std.specs.Prelude.{ℕ, ◌+◌, List, [], ◌∷◌, ◌++◌, length, take, nat_lt}
 use Rattle.plain.specs.Term.{pick}
 use Rattle.plain.specs.Device.{read_line, storing, settled}
 use Rattle.plain.specs.Run.{World, Engine, Event, line, next, Act, read, store, settle, shows, done, refused, Ran, in_memory, on_device, storable, ran, refusal_end_lem, runs}

@@ -1,15 +1,15 @@
 -- Each program of the journal is safe: what a stop finds at any act, what holds at the end, and how many lines were used.
-use Rattle.std.proofs.Common.{◌≡◌, ℕ, zero, suc, ◌+◌, ◌*◌, ◌<◌, ◌≤◌, Bool, true, false, ◌&&◌, ◌⊎◌, List, [], ◌∷◌, ◌++◌, length, sym, refl, ap, ◌∙◌, subst, ap₂, inl, inr, append_assoc, append-nil, arith, length-append}
-use Rattle.plain.specs.Device.{Device, Line, read_line, storing, settled, stopped, a_line, line_at, set_line}
-use Rattle.plain.specs.Run.{Act, read, store, settle}
+use Rattle.std.proofs.Common.{◌≡◌, ℕ, suc, ◌+◌, ◌*◌, ◌<◌, ◌≤◌, true, List, [], ◌∷◌, ◌++◌, length, sym, refl, ap, ◌∙◌, subst, append_assoc, append-nil, arith, length-append}
+use Rattle.plain.specs.Device.{Device, Line, storing, settled, a_line, line_at, set_line}
+use Rattle.plain.specs.Run.{read, store, settle}
 use Rattle.programs.specs.Prog.{Prog, ret, ask, bind}
 use Rattle.programs.specs.Machine.{At, at, Safe, blank}
 use Rattle.programs.proofs.Rules.{safe_weak, safe_bind, safe_ret, safe_read, safe_store, safe_settle}
 use Rattle.plain.specs.Stopping.{seen, stop, Always, Is}
 use Rattle.plain.proofs.Stops.{at_other, stop_length, always_seen, always_store, is_store, is_write}
-use Rattle.journal.specs.Journal.{Write, latest, written, word, word_line, Layout, first, Logged, Good, Sound, Says, Marks, Survives, Ready, Half, Committed, Free}
+use Rattle.journal.specs.Journal.{Write, written, word, word_line, Layout, Logged, Good, Sound, Marks, Ready, Half, Committed}
 use Rattle.journal.specs.Programs.{Stable, Derived, After, write, log, log_all, commit, apply, apply_all, clear, reapply, reapply_all}
-use Rattle.journal.proofs.Lines.{word_line_line, logged_at, good_at, idle_survives, marks_free, half_set, ready_set, committed_set, applied_set, clear_set}
+use Rattle.journal.proofs.Lines.{word_line_line, logged_at, good_at, half_set, ready_set, committed_set, applied_set, clear_set}
 
 pub derived_stable : (Y : Layout) (E : ℕ → Line) → Stable Y (Derived Y E)
 derived_stable Y E ls k p lt f j le = at_other ls k j p (λ e. absurd (omega arith)) ∙ f j le

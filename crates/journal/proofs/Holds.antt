@@ -1,17 +1,16 @@
 -- What the layers above need of the journal: what a device holds, what survives a stop, and one statement for each program.
-use Rattle.std.proofs.Common.{◌≡◌, ℕ, zero, suc, ◌+◌, ◌*◌, ◌<◌, ◌≤◌, Bool, true, false, ◌&&◌, ◌⊎◌, List, [], ◌∷◌, ◌++◌, length, take, sym, refl, ap, ◌∙◌, subst, ap₂, inl, inr, append_assoc, append-nil, arith, length-append}
-use Rattle.plain.specs.Device.{Device, Line, read_line, storing, settled, stopped, a_line, line_at, set_line, so_many_of, fresh}
-use Rattle.plain.specs.Run.{Act, read, store, settle}
-use Rattle.programs.specs.Prog.{Prog, ret, ask, bind}
-use Rattle.programs.specs.Machine.{At, at, Safe, blank}
-use Rattle.programs.proofs.Rules.{safe_weak, safe_bind, safe_ret, safe_read, safe_store, safe_settle}
-use Rattle.plain.specs.Stopping.{seen, stop, Always, Is}
-use Rattle.plain.proofs.Stops.{stop_length, always_seen, always_store, always_settle, always_write, always_quiet, always_stopped}
-use Rattle.journal.specs.Journal.{Write, latest, written, value, word, word_line, Layout, first, Logged, Good, Sound, Says, Marks, Survives, Ready, Half, Committed, Free}
-use Rattle.journal.specs.Programs.{Stable, Derived, write, log, log_all, commit, apply, apply_all, clear, reapply, reapply_all, batch, recover, recover_so, After}
+use Rattle.std.proofs.Common.{◌≡◌, ℕ, zero, suc, ◌+◌, ◌*◌, ◌<◌, ◌≤◌, true, List, [], ◌∷◌, length, sym, refl, ap, ◌∙◌, subst, inl, inr, arith}
+use Rattle.plain.specs.Device.{Device, Line, read_line, storing, settled, stopped, a_line, line_at, so_many_of, fresh}
+use Rattle.programs.specs.Prog.{bind}
+use Rattle.programs.specs.Machine.{At, at, Safe}
+use Rattle.programs.proofs.Rules.{safe_weak, safe_ret}
+use Rattle.plain.specs.Stopping.{seen, stop, Always}
+use Rattle.plain.proofs.Stops.{stop_length, always_seen, always_store, always_settle, always_quiet}
+use Rattle.journal.specs.Journal.{Write, latest, written, value, word, Layout, first, Logged, Good, Says, Marks, Survives, Ready, Committed, Free}
+use Rattle.journal.specs.Programs.{Stable, Derived, log_all, commit, apply_all, clear, reapply_all, batch, recover, recover_so, After}
 use Rattle.journal.specs.Promises as promises
 use Rattle.journal.specs.Promises.{nothing, WholeOrNot, RecoveredSo, LogicalSo}
-use Rattle.journal.proofs.Lines.{word_line_line, logged_at, good_at, idle_survives, marks_free, marks_as, survives_says, says_survives}
+use Rattle.journal.proofs.Lines.{idle_survives, marks_free, marks_as, survives_says, says_survives}
 use Rattle.journal.proofs.Commit.{derived_stable, and_then, after_is, read_safe, log_all_safe, commit_safe, apply_all_safe, reapply_all_safe, clear_safe}
 
 length_of_many : {A : Type 0} (n : ℕ) (x : A) → length (so_many_of n x) ≡ n

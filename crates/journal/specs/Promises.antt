@@ -1,8 +1,8 @@
 -- What the journal promises to the layers above. Assumes nothing: these are definitions, and statements, of which theorem functions have proofs.
-use Rattle.std.specs.Prelude.{◌≡◌, ℕ, zero, suc, ◌+◌, ◌*◌, ◌≤◌, true, ◌⊎◌, List, [], length}
+use Rattle.std.specs.Prelude.{ℕ, ◌+◌, ◌*◌, ◌≤◌, ◌⊎◌, List, [], length}
 use Rattle.plain.specs.Device.{Device, Line, read_line, stopped, line_at, so_many_of}
 use Rattle.plain.specs.Stopping.{Always}
-use Rattle.programs.specs.Machine.{At, at, Safe}
+use Rattle.programs.specs.Machine.{at, Safe}
 use Rattle.journal.specs.Journal.{Write, written, word, entries, logical, Layout, Good, Sound, Says, Marks, Survives}
 use Rattle.journal.specs.Programs.{batch, recover, Derived, After}
 

@@ -1,15 +1,15 @@
 -- Words and their bytes, there and back.
-use Rattle.std.proofs.Common.{◌≡◌, ℕ, zero, suc, ◌+◌, ◌-◌, ◌*◌, ◌/◌, ◌%◌, ◌^◌, ◌<◌, ◌≤◌, Bool, true, false, ◌&&◌, eqb, ltb, List, [], ◌∷◌, ◌++◌, length, get_or, take, drop, sym, refl, ap, ◌∙◌, subst, ap₂, append_assoc, append-nil, add-zero, arith, w8, Fits, ltb-true}
+use Rattle.std.proofs.Common.{◌≡◌, ℕ, zero, suc, ◌+◌, ◌*◌, ◌/◌, ◌%◌, ◌^◌, ◌<◌, ◌≤◌, Bool, true, false, ◌&&◌, eqb, ltb, List, [], ◌∷◌, ◌++◌, length, get_or, take, drop, sym, refl, ap, ◌∙◌, append_assoc, append-nil, add-zero, arith, w8, Fits, ltb-true}
 use mathlib.Core.Bool.{false≢true}
 use borrow.Rule.Slice.PartMut.{put_mid}
 use Rattle.std.proofs.lemmas.Bool.{eq-eqb, ne_eqb, lt-ltb, eqb-true}
 use Rattle.programs.specs.Machine.{tidy, blank}
 use Rattle.programs.proofs.Fate.{tidy_line}
-use Rattle.std.proofs.lemmas.List.{drop_all, drop-drop, take_more, length-append, length-take-le, take_all, length-take, length-drop, get_or-drop, get_or-take, take_at, drop_at, take-append-drop}
-use Rattle.plain.specs.Term.{pick, every, all_bytes, in_bytes, eight}
+use Rattle.std.proofs.lemmas.List.{drop_all, drop-drop, take_more, length-append, length-take-le, length-drop, get_or-drop, get_or-take, take_at, drop_at, take-append-drop}
+use Rattle.plain.specs.Term.{all_bytes, in_bytes, eight}
 use Rattle.plain.specs.Read.{number_after, number}
-use Rattle.plain.specs.Device.{a_line, so_many_of}
-use Rattle.plain.proofs.EightBytes.{there, back, number_is, eight_long, eight_bytes}
+use Rattle.plain.specs.Device.{so_many_of}
+use Rattle.plain.proofs.EightBytes.{there, back, number_is, eight_long}
 use Rattle.lines.specs.Words.{bytes_of, number_line, word_at, words_in}
 
 both : (a b : Bool) → (a && b) ≡ true → (a ≡ true) × (b ≡ true)

@@ -1,5 +1,5 @@
 -- Lines of eight words, and the bytes that they stand for, the highest of each word first. Assumes nothing: these are definitions.
-use Rattle.std.specs.Prelude.{ℕ, zero, suc, ◌+◌, ◌-◌, ◌*◌, ◌/◌, List, [], ◌∷◌, ◌++◌, length, take, drop}
+use Rattle.std.specs.Prelude.{ℕ, zero, suc, ◌-◌, ◌*◌, ◌/◌, List, [], ◌∷◌, ◌++◌, length, take, drop}
 use Rattle.plain.specs.Term.{eight}
 use Rattle.plain.specs.Read.{number}
 use Rattle.plain.specs.Device as device

@@ -1,12 +1,12 @@
 -- The engine is steady: a step keeps the length of memory and its words small, whatever the stages are and whatever is told.
-use Rattle.std.proofs.Common.{◌≡◌, ℕ, zero, suc, ◌+◌, ◌-◌, ◌*◌, ◌%◌, ◌<◌, ◌≤◌, min, Bool, true, false, ◌&&◌, eqb, ltb, leb, List, [], ◌∷◌, ◌++◌, length, get_or, take, drop, set, sym, refl, ap, ◌∙◌, subst, ap₂, arith, lit≤}
+use Rattle.std.proofs.Common.{◌≡◌, ℕ, zero, suc, ◌+◌, ◌*◌, ◌<◌, ◌≤◌, min, Bool, true, false, ◌&&◌, eqb, ltb, List, [], ◌∷◌, ◌++◌, length, get_or, take, drop, set, sym, refl, ◌∙◌, subst, arith, lit≤}
 use mathlib.Core.Bool.{false≢true}
-use Rattle.std.proofs.lemmas.List.{length-append, length-take-le, length-drop, length-set}
+use Rattle.std.proofs.lemmas.List.{length-take-le, length-drop}
 use Rattle.std.proofs.lemmas.Bool.{lt-ltb, ltb-true, eqb-true}
 use Rattle.plain.specs.Term.{pick, each, every, all_bytes}
 use Rattle.plain.specs.Device.{Line, a_line, so_many_of}
 use Rattle.plain.specs.Read.{number, number_after}
-use Rattle.plain.specs.Run.{Event, on, said, line, next, all_small, Steady, Step, refused}
+use Rattle.plain.specs.Run.{Event, on, said, line, next, all_small, Steady, refused}
 use Rattle.programs.specs.Prog.{Out, came, wants}
 use Rattle.programs.specs.Machine.{tidy, blank, doing}
 use Rattle.programs.proofs.Fate.{tidy_line, blank_line}

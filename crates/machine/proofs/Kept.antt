@@ -1,8 +1,8 @@
 -- What is saved, pushed and heard is there afterwards, and all else is as it was.
-use Rattle.std.proofs.Common.{◌≡◌, ℕ, zero, suc, ◌+◌, ◌-◌, ◌*◌, ◌/◌, ◌%◌, ◌<◌, ◌≤◌, min, Bool, true, false, List, [], ◌∷◌, ◌++◌, length, get_or, take, drop, set, sym, refl, ap, ◌∙◌, subst, ap₂, append_assoc, arith}
-use Rattle.std.proofs.lemmas.List.{length-append, length-take-le, length-drop, length-set, take-append-le, drop-append-le, take_at, drop_at, drop-drop, take-take, drop-take, get_or_append_left, get_or-take, get_or-set_other, get_or-set_same, drop-set-lt, take_all, drop_all}
+use Rattle.std.proofs.Common.{◌≡◌, ℕ, zero, suc, ◌+◌, ◌-◌, ◌*◌, ◌/◌, ◌<◌, ◌≤◌, min, List, [], ◌∷◌, ◌++◌, length, get_or, take, drop, set, sym, refl, ap, ◌∙◌, arith}
+use Rattle.std.proofs.lemmas.List.{length-append, length-take-le, length-drop, length-set, take-append-le, drop-append-le, take_at, drop_at, drop-drop, drop-take, get_or-take, get_or-set_same, drop-set-lt, take_all}
 use Rattle.std.proofs.lemmas.Slice.{take-put_mid_below, take-put_mid}
-use Rattle.plain.specs.Device.{Line, so_many_of}
+use Rattle.plain.specs.Device.{so_many_of}
 use Rattle.lines.specs.Words.{bytes_of, lines_in, answers}
 use Rattle.machine.specs.Memory.{fixed, part, put_at, registers_in, command_in, directory_in, tape_in, saved, pushed, heard, packed, command_of}
 use Rattle.machine.proofs.Parts.{length_fixed}

@@ -1,9 +1,9 @@
 -- Parts of a memory, and words that fit.
-use Rattle.std.proofs.Common.{◌≡◌, ℕ, zero, suc, ◌+◌, ◌-◌, ◌*◌, ◌%◌, ◌<◌, ◌≤◌, min, List, [], ◌∷◌, ◌++◌, length, get_or, take, drop, set, sym, refl, ap, ◌∙◌, subst, ap₂, arith, w64, Fits}
-use Rattle.std.proofs.lemmas.List.{length-append, length-take-le, length-drop, take_at, drop_at, get_or-drop, get_or_append_left}
+use Rattle.std.proofs.Common.{◌≡◌, ℕ, zero, suc, ◌+◌, ◌%◌, ◌≤◌, List, [], ◌∷◌, ◌++◌, length, get_or, take, drop, set, sym, refl, ap, ◌∙◌, subst, ap₂, arith, w64, Fits}
+use Rattle.std.proofs.lemmas.List.{length-append, length-take-le, length-drop, take_at, drop_at, get_or-drop}
 use Rattle.plain.specs.Term.{each}
 use Rattle.plain.specs.Device.{so_many_of}
-use Rattle.machine.specs.Memory.{small, fixed, part, put_at, saved, pushed}
+use Rattle.machine.specs.Memory.{small, fixed, part, put_at, saved}
 
 pub length_many : {A : Type 0} (n : ℕ) (x : A) → length (so_many_of n x) ≡ n
 unfolding so_many_of

@@ -1,21 +1,21 @@
 -- The engine replays its programs: whatever the stages are, a step does what is next in the program of the stage that memory holds.
-use Rattle.std.proofs.Common.{◌≡◌, ℕ, zero, suc, ◌+◌, ◌-◌, ◌*◌, ◌<◌, ◌≤◌, min, Bool, true, false, ◌&&◌, eqb, ltb, List, [], ◌∷◌, ◌++◌, length, get_or, take, drop, sym, refl, ap, ◌∙◌, subst, ap₂, arith}
+use Rattle.std.proofs.Common.{◌≡◌, ℕ, ◌+◌, ◌-◌, ◌<◌, ◌≤◌, Bool, true, false, ◌&&◌, eqb, ltb, List, [], ◌∷◌, ◌++◌, length, get_or, take, drop, sym, refl, ap, ◌∙◌, subst, ap₂, arith}
 use mathlib.Core.Bool.{false≢true}
 use Rattle.std.proofs.lemmas.List.{length_push}
 use Rattle.std.proofs.lemmas.Bool.{eq-eqb, eqb-true}
-use Rattle.plain.specs.Term.{pick, every}
-use Rattle.plain.specs.Device.{Line, a_line, read_line, so_many_of}
-use Rattle.plain.specs.Run.{Act, read, store, settle, shows, done, refused, Event, on, said, line, next, Step}
-use Rattle.programs.specs.Prog.{Prog, ret, ask, bind, Out, came, wants, replay, feed, Opens, Short, Lined}
-use Rattle.programs.specs.Machine.{Machine, Next, then, over, At, answer, reply, tidy, blank, ends, doing, Begun, Did, Laws}
+use Rattle.plain.specs.Term.{every}
+use Rattle.plain.specs.Device.{Line, so_many_of}
+use Rattle.plain.specs.Run.{Act, read, store, settle, shows, done, refused, Event, on, said}
+use Rattle.programs.specs.Prog.{Prog, ret, ask, bind, replay, feed, Opens, Short}
+use Rattle.programs.specs.Machine.{Machine, Next, then, At, answer, reply, Begun, Did}
 use Rattle.programs.proofs.Programs.{feed_next, short_bind}
 use Rattle.programs.proofs.Fate.{answer_line}
 use Rattle.lines.specs.Words.{words_in, bytes_of}
-use Rattle.lines.proofs.Words.{bytes_back, tidy_back}
+use Rattle.lines.proofs.Words.{bytes_back}
 use Rattle.machine.specs.declared.stages.End.{End}
 use Rattle.machine.specs.declared.stages.End.TheVariants.{Go, Over}
 use Rattle.machine.specs.declared.stages.Move.{Move}
-use Rattle.machine.specs.Memory.{fixed, registers_in, command_in, directory_in, tape_in, saved, pushed, heard, put_at}
+use Rattle.machine.specs.Memory.{fixed, command_in, directory_in, saved, pushed, heard}
 use Rattle.machine.specs.Model.{Model}
 use Rattle.machine.specs.Engine.{run_in, deed_done, applied, opening, begun, ended, moved, turn, answered, told, engine_of}
 use Rattle.machine.specs.View.{View, Holds, raw, moved_view, next_if, stage_of, boot_view, told_view, hear_view, machine_of, Ok, Replays}

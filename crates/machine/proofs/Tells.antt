@@ -1,12 +1,12 @@
 -- What is told to the world outside, way by way: the facts that the proofs of the step's parts cite.
-use Rattle.std.proofs.Common.{◌≡◌, ℕ, zero, suc, ◌<◌, ◌≤◌, Bool, true, false, leb, ◌≢◌, List, length, take, sym, refl, ap, ◌∙◌, subst, arith}
+use Rattle.std.proofs.Common.{◌≡◌, ℕ, zero, suc, ◌<◌, ◌≤◌, Bool, true, false, leb, ◌≢◌, List, length, take, refl, ap, ◌∙◌, subst, arith}
 use Rattle.std.proofs.lemmas.Bool.{eq-eqb, ne_eqb, le-leb, lt-leb}
-use Rattle.plain.specs.Device.{Line, so_many_of}
-use Rattle.plain.specs.Run.{Act, refused, Event, on, said, line, next, Step, Engine}
-use Rattle.programs.specs.Prog.{Out, came, wants}
-use Rattle.programs.specs.Machine.{ends, doing}
+use Rattle.plain.specs.Device.{Line}
+use Rattle.plain.specs.Run.{Act, refused, Event, on, said, line, next}
+use Rattle.programs.specs.Prog.{came, wants}
+use Rattle.programs.specs.Machine.{ends}
 use Rattle.machine.specs.declared.told.Told.{Told}
-use Rattle.machine.specs.declared.told.Told.TheVariants.{Done, No}
+use Rattle.machine.specs.declared.told.Told.TheVariants.{No}
 use Rattle.machine.specs.declared.stages.Move.{Move}
 use Rattle.machine.specs.declared.stages.End.TheVariants.{Go, Over}
 use Rattle.machine.specs.Model.{Model}

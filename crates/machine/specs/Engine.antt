@@ -1,9 +1,9 @@
 -- The engine that stages make: told an event, it notes the answer, runs its stage again against all answers so far, and does the act that is wanted
 -- next; where the stage comes out, its move is applied, and the next stage begins with its first act. Assumes nothing: these are definitions.
-use Rattle.std.specs.Prelude.{ℕ, zero, suc, List, [], ◌∷◌, length, ◌==◌}
+use Rattle.std.specs.Prelude.{ℕ, List, length, ◌==◌}
 use Rattle.plain.specs.Term.{pick}
 use Rattle.plain.specs.Device.{so_many_of}
-use Rattle.plain.specs.Run.{Act, done, refused, Event, on, said, line, next, Step, Engine}
+use Rattle.plain.specs.Run.{refused, Event, on, said, line, next, Step, Engine}
 use Rattle.programs.specs.Prog.{Out, came, wants, replay}
 use Rattle.programs.specs.Machine.{tidy, blank, ends, doing}
 use Rattle.lines.specs.Words.{words_in}

@@ -1,6 +1,6 @@
 -- How the engine's memory is divided: how many answers the tape has, registers, the command, the directory, and the tape. Assumes nothing: these are
 -- definitions.
-use Rattle.std.specs.Prelude.{ℕ, zero, suc, ◌+◌, ◌*◌, ◌%◌, min, List, [], ◌∷◌, ◌++◌, length, take, drop, slice_index, slice_set}
+use Rattle.std.specs.Prelude.{ℕ, zero, suc, ◌+◌, ◌*◌, ◌%◌, min, List, [], ◌∷◌, ◌++◌, take, drop, slice_index, slice_set}
 use Rattle.plain.specs.Term.{each}
 use Rattle.plain.specs.Device.{Line, so_many_of}
 use Rattle.plain.specs.Read.{number}

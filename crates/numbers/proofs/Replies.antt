@@ -1,11 +1,9 @@
 -- What the entry answers, way by way.
-use Rattle.std.proofs.Common.{◌≡◌, ℕ, zero, suc, Bool, true, false, not, ◌&&◌, eqb, ltb, Some, None, sym, refl, ap, ◌∙◌, subst, ap₂, arith}
-use mathlib.Core.Bool.{false≢true}
+use Rattle.std.proofs.Common.{◌≡◌, ℕ, zero, suc, Bool, true, false, not, eqb, ltb, Some, None, sym, refl, ap, ◌∙◌, ap₂, arith}
 use Rattle.std.proofs.lemmas.Bool.{le-ltb}
-use Rattle.std.proofs.lemmas.Bool.Decides.{nat_tests}
 use Rattle.plain.specs.Commands.{small_num}
 use Rattle.plain.specs.Read.{signed}
-use Rattle.plain.specs.Term.{pick, Num, plus, minus, Value, num, wrong, two, right_both}
+use Rattle.plain.specs.Term.{pick, Num, plus, minus, num, wrong, two, right_both}
 use Rattle.numbers.specs.declared.reckon.Reply.TheVariants.{Above, Below, Wrong, Refused}
 use Rattle.numbers.specs.declared.reckon.Operation.{Operation}
 use Rattle.numbers.specs.declared.reckon.Operation.TheVariants.{Sum, Difference, Product, Quotient}

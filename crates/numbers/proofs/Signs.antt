@@ -1,5 +1,5 @@
 -- Reckoning with signed numbers is reckoning with millionths, and nothing overflows 128 bits.
-use Rattle.std.proofs.Common.{◌≡◌, ℕ, zero, suc, ◌+◌, ◌-◌, ◌*◌, ◌/◌, ◌^◌, ◌<◌, ◌≤◌, Bool, true, false, cond, ltb, leb, ℤ, pos, negsuc, ◌+ℤ◌, ◌*ℤ◌, neg_ℤ, sym, refl, ap, ◌∙◌, ap₂, le_trans, mul-le-mul, div-le_self, arith, w64, SFits, to_z, of_z, rules}
+use Rattle.std.proofs.Common.{◌≡◌, ℕ, zero, suc, ◌-◌, ◌*◌, ◌/◌, ◌^◌, ◌<◌, ◌≤◌, true, false, ℤ, pos, negsuc, ◌+ℤ◌, ◌*ℤ◌, neg_ℤ, sym, refl, ap, ◌∙◌, ap₂, le_trans, mul-le-mul, div-le_self, arith, w64, SFits, to_z, of_z, rules}
 use native.Mathlib.Nat.{zero-div}
 use lib.Signed.{lt_z, quot_z, mag}
 use mir.Syntax.{w128}
@@ -7,7 +7,7 @@ use borrow.Author.Numbers.{signed_product}
 use Rattle.std.proofs.lemmas.Bool.Decides.{nat_tests}
 use Rattle.std.proofs.lemmas.Bool.{ne_eqb}
 use Rattle.std.proofs.lemmas.Int.{to_z-of_z, ints}
-use Rattle.plain.specs.Term.{Num, plus, minus, Value, num, wrong, negative, add, times, divided, within, pick, million, limit, apart, other, is_zero, less_num}
+use Rattle.plain.specs.Term.{Num, plus, Value, num, wrong, negative, add, times, divided, within, pick, apart, other, is_zero, less_num}
 use Rattle.numbers.specs.Meaning.{signed}
 
 neg_num : (k : ℕ) → signed (neg_ℤ (pos k)) ≡ negative k

@@ -1,5 +1,5 @@
 -- What the entry that reckons with two numbers answers. Assumes nothing: these are definitions.
-use Rattle.std.specs.Prelude.{ℕ, zero, suc, Bool, true, false, not, ◌&&◌, Some, None, Option, ◌==◌, nat_lt}
+use Rattle.std.specs.Prelude.{ℕ, zero, suc, ◌&&◌, Some, None, Option, ◌==◌, nat_lt}
 use Rattle.plain.specs.Term.{pick, Num, plus, minus, Value, empty, num, txt, truth, wrong, two, within, add, other, times, divided, is_zero}
 use Rattle.numbers.specs.declared.reckon.Reply.{Reply}
 use Rattle.numbers.specs.declared.reckon.Reply.TheVariants as reply

@@ -1,5 +1,5 @@
 -- Changing cells changes nothing of what does not refer to them, before or after; and so for setting one cell. Assumes nothing.
-use Rattle.std.proofs.Common.{◌≡◌, ℕ, zero, suc, ◌+◌, Bool, true, false, not, ◌&&◌, eqb, ◌⊎◌, List, [], ◌∷◌, length, sym, refl, ap, ◌∙◌, subst, ap₂, inl, inr, add_comm}
+use Rattle.std.proofs.Common.{◌≡◌, ℕ, zero, suc, ◌+◌, Bool, true, false, ◌&&◌, eqb, ◌⊎◌, List, [], ◌∷◌, length, sym, refl, ap, ◌∙◌, subst, ap₂, inl, inr, add_comm}
 use Rattle.std.proofs.lemmas.Bool.{both_ways, eqb-true, and_parts}
 use Rattle.plain.specs.Term.{pick, none_of, wrong}
 use Rattle.plain.specs.Sheet.{Cell, Name, Sheet, is_at, at, before, put_cell, boxes, Place, same_place, is_in, place_of, uses_of, reaches, in_circle, Look, cells_worth, worth_at, shown}

@@ -2,8 +2,8 @@
 -- Assumes nothing.
 use Rattle.std.proofs.Common.{◌≡◌, ℕ, zero, suc, ◌+◌, ◌<◌, ◌≤◌, Bool, true, false, eqb, ◌⊎◌, List, [], ◌∷◌, length, sym, refl, ap, ◌∙◌, subst, inl, inr, suc-add, add-one, arith}
 use Rattle.std.proofs.lemmas.Bool.{eqb-true, and_parts}
-use Rattle.plain.specs.Term.{pick, any, each, those, empty, wrong}
-use Rattle.plain.specs.Sheet.{Cell, Name, Sheet, is_at, at, boxes, Place, place_of, refers, uses_at, uses_of, reaches, in_circle, Look, worth, deep, cells_worth, worth_at, shown}
+use Rattle.plain.specs.Term.{pick, those, empty, wrong}
+use Rattle.plain.specs.Sheet.{Cell, Name, Sheet, is_at, at, boxes, Place, place_of, refers, uses_at, uses_of, reaches, in_circle, Look, deep, cells_worth, worth_at, shown}
 use Rattle.plain.specs.Promise.{RoundsEnough}
 use Rattle.plain.specs.Laws.{In, Reach, one, more, covers, Agree, Fixed, ShownFixed}
 use Rattle.plain.proofs.Members.{Within, Told, told, pick_yes, pick_no, in_each, each_in, in_those, those_in, in_flat, flat_in, is_in_false, pigeons}

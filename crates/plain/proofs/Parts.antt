@@ -1,9 +1,8 @@
 -- what a reader gives, and that it reads what is spelled: the small readers
-use Rattle.std.proofs.Common.{◌≡◌, ℕ, zero, suc, ◌+◌, ◌-◌, ◌*◌, ◌^◌, ◌<◌, ◌≤◌, Bool, true, false, ◌&&◌, eqb, ltb, leb, List, [], ◌∷◌, ◌++◌, length, take, drop, sym, refl, ap, ◌∙◌, subst₂, append_assoc, arith, lit<, length-append, take-append-drop, length-take}
+use Rattle.std.proofs.Common.{◌≡◌, ℕ, zero, suc, ◌^◌, ◌<◌, Bool, true, false, ◌&&◌, ltb, leb, List, [], ◌∷◌, ◌++◌, length, take, drop, sym, refl, ap, subst₂, append_assoc, arith, lit<, length-append, take-append-drop, length-take}
 use Rattle.std.proofs.lemmas.List.{take_at, drop_at}
 use Rattle.std.proofs.lemmas.Bool.{false≢true, and_parts, and_from, ltb-true, leb-true, le-leb, lt-ltb}
-use Rattle.std.proofs.lemmas.Bool.Decides.{nat_tests}
-use Rattle.plain.specs.Term.{eight, with_length, every, all_bytes, Num, plus, minus, Value, empty, num, txt, truth, wrong, Ref, Box, limit}
+use Rattle.plain.specs.Term.{eight, with_length, all_bytes, Num, plus, minus, Value, empty, num, txt, truth, wrong, Ref, Box, limit}
 use Rattle.plain.specs.Sheet.{Place}
 use Rattle.plain.specs.Commands.{bit, num_spelled, value_spelled, ref_spelled, box_spelled, on_sheet, a_ref, a_box, a_name, small_num, a_const}
 use Rattle.plain.specs.Read.{Got, got, nothing, then, only, one, number, read_eight, flag, read_flag, read_place, read_ref, read_box, read_counted, read_name, signed, value_tag, read_value}

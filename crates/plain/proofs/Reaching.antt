@@ -1,7 +1,7 @@
 -- What `reaches` has: exactly the places that one comes to from a place by one or more references. Assumes nothing.
-use Rattle.std.proofs.Common.{◌≡◌, ℕ, zero, suc, ◌+◌, ◌<◌, ◌≤◌, true, false, not, ◌⊎◌, ◌↔◌, List, [], ◌∷◌, ◌++◌, length, sym, refl, ap, ◌∙◌, subst, inl, inr, arith, length-append}
+use Rattle.std.proofs.Common.{◌≡◌, ℕ, zero, suc, ◌+◌, ◌<◌, ◌≤◌, true, false, ◌⊎◌, ◌↔◌, List, [], ◌∷◌, ◌++◌, length, sym, refl, ap, ◌∙◌, subst, inl, inr, arith, length-append}
 use Rattle.std.proofs.lemmas.Bool.{both_ways}
-use Rattle.plain.specs.Term.{pick, or, each, those, flat, wrong}
+use Rattle.plain.specs.Term.{pick, each, those, flat, wrong}
 use Rattle.plain.specs.Sheet.{Sheet, at, Place, is_in, place_of, refers, uses_at, with_new, uses_of, rounds, reaches, in_circle, worth_at}
 use Rattle.plain.specs.Promise.{CirclesWrong}
 use Rattle.plain.specs.Laws.{In, Reach, one, more, ReachesRight}

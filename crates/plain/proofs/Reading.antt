@@ -1,12 +1,12 @@
 -- formulas and commands are read as they are spelled
-use Rattle.std.proofs.Common.{◌≡◌, ℕ, zero, suc, ◌+◌, ◌-◌, ◌*◌, ◌^◌, ◌<◌, ◌≤◌, Bool, true, false, ◌&&◌, eqb, ltb, leb, ◌≢◌, ◌⊎◌, List, [], ◌∷◌, ◌++◌, length, Some, None, Option, sym, refl, ap, ◌∙◌, subst, inl, inr, append_assoc, append-nil, arith, length-append}
-use Rattle.std.proofs.lemmas.Bool.{false≢true, and_parts, and_from, ltb-true, leb-true, le-leb, lt-ltb}
+use Rattle.std.proofs.Common.{◌≡◌, ℕ, zero, suc, ◌-◌, ◌^◌, ◌<◌, ◌≤◌, Bool, true, false, ◌&&◌, ltb, leb, ◌≢◌, ◌⊎◌, List, [], ◌∷◌, ◌++◌, length, Some, None, Option, sym, refl, ap, ◌∙◌, inl, inr, append_assoc, append-nil, arith, length-append}
+use Rattle.std.proofs.lemmas.Bool.{false≢true, and_parts, and_from, leb-true, le-leb}
 use Rattle.std.proofs.lemmas.Bool.Decides.{nat_tests}
-use Rattle.plain.specs.Term.{pick, eight, with_length, Value, Ref, Term, Terms, const, cell, area, named, gone, opposite, bin, call, no_terms, term_and, Box, larger}
+use Rattle.plain.specs.Term.{pick, eight, with_length, Term, Terms, const, cell, area, named, gone, opposite, bin, call, no_terms, term_and, larger}
 use Rattle.plain.specs.Sheet.{Place}
-use Rattle.plain.specs.Commands.{Command, set_cell, wipe, show, rows, written, name, unname, insert, remove, copy, bit, a_box, a_name, places_of, value_spelled, ref_spelled, box_spelled, count_terms, term_spelled, terms_spelled, spelled, on_sheet, a_ref, a_const, a_term, all_terms, a_target, a_formula, depth, depth_all, fits}
+use Rattle.plain.specs.Commands.{Command, set_cell, wipe, show, rows, written, name, unname, insert, remove, copy, bit, a_box, a_name, places_of, ref_spelled, box_spelled, count_terms, term_spelled, terms_spelled, spelled, on_sheet, a_ref, a_term, all_terms, a_target, a_formula, depth, depth_all, fits}
 use Rattle.plain.specs.Promise.{Said, Never, SpelledOnce}
-use Rattle.plain.specs.Read.{Got, got, nothing, then, only, one, read_eight, read_flag, read_place, read_ref, read_box, read_name, so_many, term_tag, read_term, Stretch, a_stretch, read_stretch, target_tag, read_target, command_tag, whole, read_command, Reads, ToldApart}
+use Rattle.plain.specs.Read.{Got, got, nothing, then, only, one, so_many, term_tag, read_term, Stretch, a_stretch, read_stretch, target_tag, read_target, command_tag, whole, read_command, Reads, ToldApart}
 use Rattle.plain.proofs.Parts.{Gives, gives, gives_none, gives_then, gives_only, given, one_gives, eight_gives, eight_read, flag_gives, flag_read, place_gives, place_read, ref_gives, ref_read, box_gives, box_read, name_gives, name_read, value_gives, value_read, place_spelled}
 
 -- a formula of at most this depth is spelled here

@@ -1,10 +1,10 @@
 -- What a stop may leave of a device, in lines: every stop of a device to which a line was stored and settled is a stop of it before, with that line put in.
-use Rattle.std.proofs.Common.{◌≡◌, ℕ, zero, suc, ◌+◌, ◌<◌, ◌≤◌, Bool, true, false, eqb, ◌⊎◌, List, [], ◌∷◌, ◌++◌, length, sym, refl, ap, ◌∙◌, subst, ap₂, inl, inr, arith}
+use Rattle.std.proofs.Common.{◌≡◌, ℕ, zero, suc, ◌<◌, Bool, true, false, eqb, ◌⊎◌, List, [], ◌∷◌, ◌++◌, length, sym, refl, ap, ◌∙◌, subst, inl, inr, arith}
 use Rattle.std.proofs.lemmas.Bool.{eqb-true, eqb-false, ne_eqb}
-use Rattle.plain.specs.Term.{pick, every}
+use Rattle.plain.specs.Term.{pick}
 use Rattle.plain.specs.Promise.{SettledStays}
 use Rattle.plain.specs.Stopping.{seen, stop, Always, Is, Sure}
-use Rattle.plain.specs.Device.{Device, Line, Store, set_line, line_at, all_stored, read_line, of_line, of_others, settled, storing, left, stopped, a_line}
+use Rattle.plain.specs.Device.{Device, Line, Store, set_line, line_at, all_stored, read_line, of_line, of_others, settled, storing, left, stopped}
 
 -- lines and one that is put in
 pub length_set : (ls : List Line) (k : ℕ) (p : Line) → length (set_line ls k p) ≡ length ls

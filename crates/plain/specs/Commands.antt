@@ -1,7 +1,7 @@
 -- Commands, how they are spelled as bytes, and the plain sheet: what each command answers and leaves. Assumes nothing: these are definitions.
-use Rattle.std.specs.Prelude.{◌≡◌, ℕ, zero, suc, ◌+◌, ◌-◌, ◌*◌, ◌/◌, ◌%◌, ◌<◌, ◌≤◌, Bool, true, false, not, ◌&&◌, ltb, List, [], ◌∷◌, ◌++◌, length, ◌==◌, nat_le, nat_lt}
-use Rattle.plain.specs.Term.{pick, or, every, any, each, those, flat, added_up, none_of, same, eight, with_length, all_bytes, Num, plus, minus, Value, empty, num, txt, truth, wrong, Ref, Term, Terms, const, cell, area, named, gone, opposite, bin, call, no_terms, term_and, Box, box, in_box, wide, high, limit, kind, smaller, larger}
-use Rattle.plain.specs.Sheet.{Cell, Name, Sheet, at, put_cell, clear, boxes, Place, same_place, is_in, place_of, uses_at, reaches, places_in, shown}
+use Rattle.std.specs.Prelude.{ℕ, suc, ◌+◌, ◌-◌, ◌*◌, Bool, true, false, not, ◌&&◌, ltb, List, [], ◌∷◌, ◌++◌, length, ◌==◌, nat_le, nat_lt}
+use Rattle.plain.specs.Term.{pick, or, every, any, each, those, added_up, same, eight, with_length, all_bytes, Num, plus, minus, Value, empty, num, txt, truth, wrong, Ref, Term, Terms, const, cell, area, named, gone, opposite, bin, call, no_terms, term_and, Box, in_box, wide, high, limit, smaller, larger}
+use Rattle.plain.specs.Sheet.{Cell, Name, Sheet, at, put_cell, boxes, Place, same_place, is_in, place_of, uses_at, reaches, places_in, shown}
 
 pub data Command : Type 0 where
   set_cell : ℕ → ℕ → Term → Command  -- column, row

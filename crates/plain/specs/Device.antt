@@ -1,7 +1,7 @@
 -- A device that keeps lines of 64 bytes over a power failure, behind a cache that writes stores back whenever it likes and in any order.
 -- Assumes nothing: these are definitions.
-use Rattle.std.specs.Prelude.{◌≡◌, ℕ, zero, suc, ◌+◌, ◌-◌, ◌*◌, ◌/◌, ◌%◌, ◌<◌, ◌≤◌, Bool, true, false, not, ◌&&◌, List, [], ◌∷◌, ◌++◌, length, ◌==◌, nat_lt}
-use Rattle.plain.specs.Term.{pick, or, every}
+use Rattle.std.specs.Prelude.{ℕ, zero, suc, Bool, ◌&&◌, List, [], ◌∷◌, ◌++◌, length, ◌==◌, nat_lt}
+use Rattle.plain.specs.Term.{pick, every}
 
 abbrev pub Line : Type 0
 Line = List ℕ

@@ -1,11 +1,11 @@
 -- What the engine promises, and nine laws of the plain sheet. Each is a statement, a type of which a theorem function in some crate has a proof.
 -- Assumes nothing.
-use Rattle.std.specs.Prelude.{◌≡◌, ℕ, zero, suc, ◌+◌, ◌-◌, ◌*◌, ◌/◌, ◌%◌, ◌<◌, ◌≤◌, Bool, true, false, not, ◌&&◌, ◌⊎◌, List, [], ◌∷◌, ◌++◌, length, nat_le}
-use Rattle.plain.specs.Term.{pick, or, every, any, each, those, flat, none_of, Num, plus, minus, Value, empty, num, txt, truth, wrong, Ref, Term, Terms, const, cell, area, named, gone, opposite, bin, call, no_terms, term_and, Box, in_box, add, other, times, divided, less_num, less_value, equal_value, kind}
-use Rattle.plain.specs.Sheet.{Cell, Name, Sheet, at, put_cell, Place, same_place, is_in, place_of, uses_of, reaches, in_circle, shown, worth_at, boxes}
-use Rattle.plain.specs.Commands.{Command, set_cell, wipe, show, rows, written, name, unname, insert, remove, copy, spelled, term_spelled, fits, a_formula, on_sheet, last, Turn, turn, weight, work, inserted, removed, copied, moved_on, cell_along, a_box, target, with_cells}
-use Rattle.plain.specs.Device.{Device, Line, Store, line_at, read_line, of_line, settled, stopped}
-use Rattle.plain.specs.Run.{Engine, World, Item, proper, Right, new_world, Steady}
+use Rattle.std.specs.Prelude.{◌≡◌, ℕ, zero, suc, ◌+◌, ◌*◌, ◌<◌, ◌≤◌, Bool, true, false, ◌&&◌, ◌⊎◌, List, [], ◌∷◌, ◌++◌, length, nat_le}
+use Rattle.plain.specs.Term.{pick, or, every, none_of, Num, Value, wrong, Ref, Term, Terms, const, cell, area, named, gone, opposite, bin, call, no_terms, term_and, add, other, times, less_num, less_value, kind}
+use Rattle.plain.specs.Sheet.{Cell, Sheet, at, Place, same_place, is_in, reaches, in_circle, shown, worth_at}
+use Rattle.plain.specs.Commands.{Command, set_cell, wipe, show, rows, written, name, unname, insert, remove, copy, spelled, fits, a_formula, last, Turn, turn, weight, work, inserted, removed, copied, moved_on}
+use Rattle.plain.specs.Device.{Device, Store, line_at, read_line, of_line, settled, stopped}
+use Rattle.plain.specs.Run.{Engine, Item, proper, Right, new_world, Steady}
 
 abbrev pub Never : Type 0
 Never = zero ≡ suc zero

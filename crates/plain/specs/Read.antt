@@ -1,5 +1,5 @@
 -- Reading: which bytes are a formula or a command, as a reader on lists; and that it undoes the spelling. Assumes nothing: these are definitions.
-use Rattle.std.specs.Prelude.{◌≡◌, ℕ, zero, suc, ◌+◌, ◌*◌, ◌<◌, ◌≤◌, Bool, true, false, not, ◌&&◌, ◌⊎◌, List, [], ◌∷◌, ◌++◌, length, take, drop, Some, None, Option, nat_le, nat_lt}
+use Rattle.std.specs.Prelude.{◌≡◌, ℕ, zero, suc, ◌+◌, ◌*◌, Bool, true, false, ◌&&◌, ◌⊎◌, List, [], ◌∷◌, length, take, drop, Some, None, Option, nat_le, nat_lt}
 use Rattle.plain.specs.Term.{pick, all_bytes, Num, plus, minus, Value, num, txt, truth, Ref, Term, Terms, const, cell, area, named, gone, opposite, bin, call, no_terms, term_and, Box}
 use Rattle.plain.specs.Sheet.{Place}
 use Rattle.plain.specs.Commands.{Command, set_cell, wipe, show, rows, written, name, unname, insert, remove, copy, on_sheet, a_name, small_num, places_of}

@@ -1,7 +1,7 @@
 -- The engine as a machine with a memory, told one event and doing one act at a time; how it runs on a device, with power failures; and what it
 -- is to be right beside a plain sheet. Assumes nothing: these are definitions.
-use Rattle.std.specs.Prelude.{◌≡◌, ℕ, zero, suc, ◌+◌, ◌-◌, ◌*◌, ◌/◌, ◌%◌, ◌<◌, ◌≤◌, Bool, true, false, not, ◌&&◌, ltb, ◌⊎◌, List, [], ◌∷◌, ◌++◌, length, nat_eq, nat_le, nat_lt}
-use Rattle.plain.specs.Term.{pick, or, every}
+use Rattle.std.specs.Prelude.{◌≡◌, ℕ, zero, suc, ◌≤◌, Bool, true, false, ◌&&◌, ltb, ◌⊎◌, List, [], ◌∷◌, ◌++◌, length, nat_eq, nat_le, nat_lt}
+use Rattle.plain.specs.Term.{pick, every}
 use Rattle.plain.specs.Device.{Device, Line, read_line, storing, settled, stopped, a_line, fresh}
 
 -- what the machine is told

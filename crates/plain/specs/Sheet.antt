@@ -1,6 +1,6 @@
 -- A sheet: cells with formulas, names, what each cell is worth. Assumes nothing: these are definitions.
-use Rattle.std.specs.Prelude.{◌≡◌, ℕ, zero, suc, ◌+◌, ◌-◌, ◌*◌, ◌/◌, ◌%◌, ◌<◌, ◌≤◌, Bool, true, false, not, ◌&&◌, List, [], ◌∷◌, ◌++◌, length, ◌==◌, nat_eq, nat_le, nat_lt}
-use Rattle.plain.specs.Term.{pick, or, every, any, each, those, flat, added_up, none_of, same, Num, plus, minus, Value, empty, num, txt, truth, wrong, Ref, Term, Terms, const, cell, area, named, gone, opposite, bin, call, no_terms, term_and, terms_in, terms_of, Box, box, in_box, wide, high, smaller, larger, add, other, within, less_num, kind, the_num, the_txt, the_truth, equal_value, numeric, two, million, as_text}
+use Rattle.std.specs.Prelude.{ℕ, zero, suc, ◌+◌, ◌-◌, ◌*◌, ◌/◌, ◌%◌, Bool, true, false, not, ◌&&◌, List, [], ◌∷◌, ◌++◌, length, ◌==◌, nat_eq, nat_le, nat_lt}
+use Rattle.plain.specs.Term.{pick, any, each, those, flat, none_of, same, Num, plus, minus, Value, empty, num, truth, wrong, Ref, Term, Terms, const, cell, area, named, gone, opposite, bin, call, no_terms, term_and, terms_in, Box, box, in_box, wide, high, add, other, within, less_num, kind, the_num, the_truth, equal_value, numeric, two, million, as_text}
 
 pub record Cell : Type 0 where
   pub col : ℕ

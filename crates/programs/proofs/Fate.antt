@@ -1,13 +1,13 @@
 -- What becomes of a machine told by programs: if they go well, each run of it ends well, and a stop finds it well.
-use Rattle.std.proofs.Common.{◌≡◌, ℕ, zero, suc, ◌+◌, ◌<◌, ◌≤◌, Bool, true, false, ◌&&◌, ltb, leb, ◌⊎◌, List, [], ◌∷◌, ◌++◌, length, sym, refl, ap, ◌∙◌, subst, ap₂, inl, inr, append_assoc, append-nil, suc-le-suc, zero-le, arith}
+use Rattle.std.proofs.Common.{◌≡◌, ℕ, zero, suc, ◌<◌, Bool, true, false, ltb, leb, ◌⊎◌, List, [], ◌∷◌, ◌++◌, length, sym, refl, ap, ◌∙◌, subst, inl, inr, append_assoc, append-nil, suc-le-suc, zero-le}
 use Rattle.std.proofs.lemmas.Bool.{le-leb, lt-ltb}
 use Rattle.plain.specs.Term.{pick}
-use Rattle.plain.specs.Device.{Device, Line, read_line, storing, settled, a_line, so_many_of}
-use Rattle.plain.specs.Run.{Act, read, store, settle, shows, done, refused, Event, on, said, line, next, Step, Engine, World, Ran, storable, on_device, in_memory, ran, refusal_end_lem, one_act, runs, woken, ran_as}
-use Rattle.programs.specs.Prog.{Prog, ret, ask, Out, came, wants, replay, Short, Lined, Opens, feed}
+use Rattle.plain.specs.Device.{Line, read_line, a_line, so_many_of}
+use Rattle.plain.specs.Run.{Act, read, store, settle, shows, done, refused, Event, on, said, Step, World, Ran, on_device, ran, refusal_end_lem, one_act, runs, woken, ran_as}
+use Rattle.programs.specs.Prog.{Prog, ret, ask, Lined, Opens, feed}
 use Rattle.programs.specs.Fates as fates
 use Rattle.programs.proofs.Programs.{feed_none, feed_next, lined_more, short_feed}
-use Rattle.programs.specs.Machine.{Machine, Next, then, over, tidy, blank, ends, doing, At, at, answer, after, reply, Fits, Safe, Begun, Did, Laws, Going, asks, turns, halts}
+use Rattle.programs.specs.Machine.{Machine, Next, then, tidy, blank, ends, doing, At, answer, after, reply, Fits, Begun, Did, Laws, Going, asks, turns, halts}
 
 acted : (go : World → Event → List (List ℕ) → ℕ → Ran) (m₀ m : List ℕ) (s : At) (x : Act) → Fits x s
     → one_act go (on_device m₀ s.device) s.showed s.used m x

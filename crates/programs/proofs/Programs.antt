@@ -2,7 +2,7 @@
 use Rattle.std.proofs.Common.{◌≡◌, ℕ, zero, suc, ◌+◌, ◌<◌, ◌≤◌, true, List, [], ◌∷◌, ◌++◌, length, sym, refl, ap, ◌∙◌, subst, suc-add, arith}
 use Rattle.plain.specs.Device.{Line, a_line}
 use Rattle.plain.specs.Run.{Act}
-use Rattle.programs.specs.Prog.{Prog, ret, ask, bind, Out, came, wants, replay, then_out, feed, Short, Opens, Lined}
+use Rattle.programs.specs.Prog.{Prog, ret, ask, bind, replay, then_out, feed, Short, Lined}
 
 pub replay_bind : {A B : Type 0} (p : Prog A) (f : A → Prog B) (t : List Line) → replay (bind p f) t ≡ then_out (replay p t) f
 unfolding replay bind then_out

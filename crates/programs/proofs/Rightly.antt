@@ -1,14 +1,12 @@
 -- From what is owed of a machine's programs to its being right, whatever comes and whatever stops.
-use Rattle.std.proofs.Common.{◌≡◌, ℕ, zero, suc, ◌+◌, ◌<◌, ◌≤◌, Bool, true, false, ◌&&◌, ◌⊎◌, List, [], ◌∷◌, ◌++◌, length, sym, refl, ap, ◌∙◌, subst, ap₂, inl, inr, suc-le-suc, zero-le, arith}
+use Rattle.std.proofs.Common.{◌≡◌, ℕ, Bool, true, false, ◌⊎◌, List, [], ◌∷◌, ◌++◌, length, sym, refl, ap, ◌∙◌, subst, inl, inr}
 use mathlib.Core.Bool.{false≢true}
-use Rattle.plain.specs.Term.{pick}
-use Rattle.plain.specs.Device.{Device, Line, stopped}
-use Rattle.plain.specs.Run.{World, Ran, Item, power, power_stops, whole, stops, proper, Right, dark, woken, ran_as, on_device, ran}
-use Rattle.programs.specs.Prog.{Prog, ret}
-use Rattle.programs.specs.Machine.{Machine, Next, then, over, At, at, Laws, Going}
+use Rattle.plain.specs.Device.{stopped}
+use Rattle.plain.specs.Run.{World, Ran, Item, power, power_stops, whole, stops, proper, Right, dark, woken, ran_as, on_device}
+use Rattle.programs.specs.Machine.{Machine, Laws}
 use Rattle.programs.specs.Beside as beside
 use Rattle.programs.specs.Beside.{Plain, WakeCrash, WakeEnd, SaidCrash, SaidEnd, Owed, Stands, RightAlways}
-use Rattle.programs.specs.Fates.{Ended, Running, Comes}
+use Rattle.programs.specs.Fates.{Ended, Running}
 use Rattle.programs.proofs.Fate.{said_whole, said_stop, on_whole, on_stop}
 
 module _ (M : Machine) (Ok : M.Reg → Type 0) (L : Laws M Ok) (H : Plain M) (O : Owed M H Ok) where

@@ -1,8 +1,8 @@
 -- How to show that programs and stages go well: weakening and bind, a rule for each act, a stage by what is Safe, and loops of stages by a measure.
-use Rattle.std.proofs.Common.{◌≡◌, ℕ, zero, suc, ◌+◌, ◌<◌, ◌≤◌, Bool, true, false, ◌&&◌, ltb, ◌⊎◌, List, [], ◌∷◌, ◌++◌, length, sym, refl, ap, ◌∙◌, subst, ap₂, inl, inr, arith}
+use Rattle.std.proofs.Common.{◌≡◌, ℕ, zero, suc, ◌<◌, true, ◌⊎◌, List, [], ◌∷◌, ◌++◌, length, sym, refl, subst, inl, inr, arith}
 use Rattle.std.proofs.lemmas.Bool.{lt-ltb}
 use Rattle.plain.specs.Device.{Line, a_line, read_line, storing, settled}
-use Rattle.plain.specs.Run.{Act, read, store, settle, shows}
+use Rattle.plain.specs.Run.{read, store, settle, shows}
 use Rattle.programs.specs.Prog.{Prog, ret, ask, bind}
 use Rattle.programs.specs.Machine.{Machine, Next, then, over, tidy, blank, At, at, answer, after, Safe, Going, asks, turns, halts}
 

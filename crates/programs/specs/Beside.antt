@@ -1,5 +1,5 @@
 -- A machine beside plain states: what is owed of its programs, and what follows. Assumes nothing: these are definitions and statements.
-use Rattle.std.specs.Prelude.{◌≡◌, ℕ, zero, suc, Bool, true, false, ◌⊎◌, List, [], length}
+use Rattle.std.specs.Prelude.{◌≡◌, ℕ, suc, Bool, true, false, ◌⊎◌, List, [], length}
 use Rattle.plain.specs.Device.{Device, stopped}
 use Rattle.plain.specs.Run.{World, Item, proper, Right}
 use Rattle.programs.specs.Prog.{ret}

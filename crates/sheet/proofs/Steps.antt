@@ -1,5 +1,5 @@
 -- What a step comes to, way by way: the facts that the proof of `step` cites.
-use Rattle.std.proofs.Common.{◌≡◌, ℕ, zero, suc, ◌≤◌, Bool, true, false, ◌≢◌, ◌⊎◌, List, [], ◌∷◌, length, take, Some, None, Ok, Err, Option, Result, sym, refl, ap, ◌∙◌, inl, inr, arith, Bor}
+use Rattle.std.proofs.Common.{◌≡◌, ℕ, zero, suc, ◌≤◌, Bool, true, false, ◌≢◌, ◌⊎◌, List, length, take, Some, None, Ok, Err, Option, Result, refl, ap, ◌∙◌, inl, inr, arith, Bor}
 use Rattle.std.proofs.lemmas.Bool.{eq-eqb, ne_eqb, le-leb}
 use Rattle.plain.specs.Term.{pick}
 use Rattle.plain.specs.Commands as plain
@@ -9,10 +9,10 @@ use Rattle.plain.specs.Read.{read_command}
 use Rattle.plain.specs.Run.{Event, on, said, line, next}
 use Rattle.formulas.specs.declared.command.Command.{Command}
 use Rattle.formulas.specs.declared.command.Refusal.{Refusal}
-use Rattle.formulas.specs.declared.command.Refusal.TheVariants.{Malformed, Unknown}
+use Rattle.formulas.specs.declared.command.Refusal.TheVariants.{Unknown}
 use Rattle.formulas.specs.Told.{number_of, parts, told, told_of}
 use Rattle.sheet.specs.declared.Told.{Told}
-use Rattle.sheet.specs.declared.Told.TheVariants.{Done, No}
+use Rattle.sheet.specs.declared.Told.TheVariants.{No}
 use Rattle.sheet.specs.declared.event.Event as event
 use Rattle.sheet.specs.declared.event.Event.TheVariants as variants
 use Rattle.sheet.specs.Events.{heard}

@@ -1,5 +1,5 @@
 -- The main promise for an engine that knows nothing: every command ends at once, refused with what the promise asks for.
-use Rattle.std.proofs.Common.{◌≡◌, ℕ, zero, suc, ◌≤◌, true, false, eqb, ◌⊎◌, List, [], ◌∷◌, length, Some, None, Option, refl, inl, inr, arith}
+use Rattle.std.proofs.Common.{◌≡◌, ℕ, zero, suc, true, eqb, List, [], ◌∷◌, Some, None, Option, refl, inl, inr, arith}
 use Rattle.plain.specs.Term.{every}
 use Rattle.plain.specs.Sheet.{Sheet}
 use Rattle.plain.specs.Commands.{Command}

@@ -2,7 +2,7 @@
 use Rattle.std.specs.Prelude.{◌≡◌, ℕ, ◌+◌, ◌*◌, Bool, true, false, ◌&&◌, List, [], ◌∷◌, ◌++◌, length, take, drop, ◌==◌, nat_le}
 use Rattle.plain.specs.Term.{pick}
 use Rattle.plain.specs.Device.{so_many_of}
-use Rattle.plain.specs.Run.{Engine, Event, on, said, line, next, Act, read, store, settle, shows, done, refused, Step}
+use Rattle.plain.specs.Run.{Engine, Event, on, said, line, next, Act, read, store, settle, shows, done, refused}
 use Rattle.sheet.specs.Own.{answer}
 use Rattle.sheet.specs.declared.Told.{Told}
 use Rattle.sheet.specs.declared.Told.TheVariants.{Read, Store, Settle, Shows, Done, No}

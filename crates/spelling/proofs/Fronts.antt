@@ -1,7 +1,7 @@
 -- Lists of bytes, and what the readers of plain's specs come to on them: the facts that the code's proofs share.
 use Rattle.std.proofs.Common.{◌≡◌, ℕ, zero, suc, ◌+◌, ◌<◌, ◌≤◌, Bool, true, false, ◌&&◌, ltb, leb, ◌≢◌, List, [], ◌∷◌, ◌++◌, length, get_or, take, drop, Some, None, Option, refl, arith, w8, Fits, MatchOption}
 use Rattle.std.proofs.lemmas.Bool.{and_parts, and_from, and_right, lt-ltb, le-ltb, le-leb, lt-leb, ltb-true}
-use Rattle.plain.specs.Term.{every, eight, with_length, all_bytes}
+use Rattle.plain.specs.Term.{eight, with_length, all_bytes}
 use Rattle.plain.specs.Commands.{on_sheet}
 use Rattle.plain.specs.Read.{Got, got, nothing, only, one, number, read_eight, read_counted, flag, value_tag}
 use Rattle.plain.proofs.Parts.{given, one_gives, counted_gives}

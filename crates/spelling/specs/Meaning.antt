@@ -1,5 +1,5 @@
 -- Which plain value a value of the code stands for: places, boxes, references and constants. Assumes nothing: these are definitions.
-use Rattle.std.specs.Prelude.{ℕ, Bool, true, false, ◌&&◌, ◌==◌, nat_le}
+use Rattle.std.specs.Prelude.{ℕ, Bool, ◌&&◌, ◌==◌, nat_le}
 use Rattle.plain.specs.Term as term
 use Rattle.plain.specs.Term.{or, Box, Ref}
 use Rattle.plain.specs.Sheet as sheet

@@ -8,7 +8,7 @@ use Rattle.plain.specs.Read.{read_command}
 use Rattle.plain.proofs.Reading.{said_of}
 use Rattle.spelling.specs.declared.place.Place.{Place}
 use Rattle.formulas.specs.declared.command.Command.TheVariants.{Set, Other}
-use Rattle.formulas.specs.declared.command.Refusal.TheVariants.{Malformed, Unknown}
+use Rattle.formulas.specs.declared.command.Refusal.TheVariants.{Unknown}
 use Rattle.formulas.specs.Told.{at_place, told_of, told}
 use Rattle.typed.specs.declared.reading.Answer.{Answer}
 use Rattle.typed.specs.declared.reading.Answer.TheVariants.{Done}

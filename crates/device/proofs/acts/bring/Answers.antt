@@ -1,4 +1,4 @@
-use Rattle.std.proofs.Common.{◌≡◌, sym, ap, ◌∙◌, arith}
+use Rattle.std.proofs.Common.{sym, ap, ◌∙◌, arith}
 use Rattle.plain.specs.Device.{set_line}
 use Rattle.device.proofs.Seen.{set_is_line, set_past, line_getD}
 use Rattle.device.proofs.acts.bring.Goals as goal

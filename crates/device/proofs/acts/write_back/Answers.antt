@@ -1,4 +1,4 @@
-use Rattle.std.proofs.Common.{◌≡◌, ◌≤◌, ◌⊎◌, [], length, sym, ◌∙◌, inl, inr, arith}
+use Rattle.std.proofs.Common.{◌≤◌, ◌⊎◌, [], length, sym, ◌∙◌, inl, inr, arith}
 use Rattle.std.proofs.lemmas.Bool.{cases_lt}
 use Rattle.device.proofs.Seen.{arrived_more, lost_more, left_all}
 use Rattle.device.proofs.acts.write_back.Goals.{then-arrived-i-eq-ARRIVED, else-arrived-i-eq-ARRIVED}

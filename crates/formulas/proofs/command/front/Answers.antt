@@ -1,4 +1,4 @@
-use Rattle.std.proofs.Common.{◌≡◌, refl, arith}
+use Rattle.std.proofs.Common.{arith}
 use Rattle.formulas.proofs.Telling.{moved_partly, no_command_tag}
 use Rattle.formulas.proofs.command.front.Goals as goal
 

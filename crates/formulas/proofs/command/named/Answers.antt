@@ -1,4 +1,4 @@
-use Rattle.std.proofs.Common.{◌≡◌, refl}
+use Rattle.std.proofs.Common.{refl}
 use Rattle.formulas.proofs.command.named.Goals as goal
 
 pub returns-in_default : goal.returns-in_default

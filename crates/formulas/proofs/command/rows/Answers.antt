@@ -1,4 +1,4 @@
-use Rattle.std.proofs.Common.{◌≡◌, sym, refl, ◌∙◌}
+use Rattle.std.proofs.Common.{sym, refl, ◌∙◌}
 use Rattle.plain.specs.Read.{only}
 use Rattle.formulas.proofs.command.rows.Goals as goal
 

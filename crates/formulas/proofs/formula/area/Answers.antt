@@ -1,4 +1,4 @@
-use Rattle.std.proofs.Common.{◌≡◌, refl}
+use Rattle.std.proofs.Common.{refl}
 use Rattle.plain.specs.Commands.{core_term}
 use Rattle.formulas.proofs.formula.area.Goals as goal
 

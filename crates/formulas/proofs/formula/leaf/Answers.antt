@@ -1,4 +1,4 @@
-use Rattle.std.proofs.Common.{◌≡◌, refl, arith}
+use Rattle.std.proofs.Common.{refl, arith}
 use Rattle.plain.specs.Commands.{core_term}
 use Rattle.formulas.proofs.Telling.{no_leaf}
 use Rattle.formulas.proofs.formula.leaf.Goals as goal

@@ -1,4 +1,4 @@
-use Rattle.std.proofs.Common.{◌∙◌, arith}
+use Rattle.std.proofs.Common.{◌∙◌}
 use Rattle.lines.proofs.Words.{word_is}
 use Rattle.lines.proofs.line.word_from.Goals as goal
 

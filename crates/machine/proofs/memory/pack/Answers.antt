@@ -1,4 +1,4 @@
-use Rattle.std.proofs.Common.{◌≡◌, refl, arith}
+use Rattle.std.proofs.Common.{refl, arith}
 use Rattle.machine.specs.Memory.{packed}
 use Rattle.machine.proofs.Runs.{pack_again, pack_all}
 use Rattle.machine.proofs.memory.pack.Goals as goal

@@ -1,4 +1,4 @@
-use Rattle.std.proofs.Common.{◌≡◌, sym, refl}
+use Rattle.std.proofs.Common.{sym, refl}
 use Rattle.lines.proofs.Words.{blank_words}
 use Rattle.machine.proofs.Tells.{unfit, fit, booted, answered_so}
 use Rattle.machine.proofs.step.step.Goals as goal

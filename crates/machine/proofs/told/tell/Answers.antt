@@ -1,4 +1,4 @@
-use Rattle.std.proofs.Common.{◌≡◌, ◌*◌, ◌++◌, length, drop, refl, ap, ◌∙◌, arith, rules}
+use Rattle.std.proofs.Common.{◌≡◌, ◌*◌, length, refl, ap, ◌∙◌, rules}
 use Rattle.lines.specs.Words.{line_of}
 use Rattle.lines.proofs.Words.{length_bytes}
 use Rattle.machine.specs.Entry.{ActTold}

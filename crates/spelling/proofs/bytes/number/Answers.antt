@@ -1,4 +1,4 @@
-use Rattle.std.proofs.Common.{◌≡◌, ap, ◌∙◌}
+use Rattle.std.proofs.Common.{ap, ◌∙◌}
 use Rattle.plain.specs.Read.{number}
 use Rattle.plain.proofs.EightBytes.{number_is}
 use Rattle.spelling.proofs.Fronts.{eight_none, eight_here, bytes_typed}

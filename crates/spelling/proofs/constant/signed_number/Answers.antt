@@ -1,4 +1,4 @@
-use Rattle.std.proofs.Common.{◌≡◌, sym, ◌∙◌}
+use Rattle.std.proofs.Common.{sym, ◌∙◌}
 use Rattle.plain.specs.Read.{only}
 use Rattle.spelling.proofs.constant.signed_number.Goals as goal
 

@@ -1,4 +1,4 @@
-use Rattle.std.proofs.Common.{◌≡◌, sym, ◌∙◌, arith}
+use Rattle.std.proofs.Common.{sym, ◌∙◌, arith}
 use Rattle.spelling.proofs.Names.{name_more, name_bad, name_good}
 use Rattle.spelling.proofs.name.is_name.Goals as goal
 

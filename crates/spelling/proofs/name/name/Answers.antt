@@ -1,5 +1,5 @@
-use Rattle.std.proofs.Common.{◌≡◌, sym, ◌∙◌}
-use Rattle.plain.specs.Read.{read_name, only}
+use Rattle.std.proofs.Common.{sym, ◌∙◌}
+use Rattle.plain.specs.Read.{only}
 use Rattle.spelling.proofs.name.name.Goals as goal
 
 pub returns-in_default : goal.returns-in_default

@@ -1,4 +1,4 @@
-use Rattle.std.proofs.Common.{sym, refl, ◌∙◌}
+use Rattle.std.proofs.Common.{sym, refl}
 use Rattle.lines.proofs.Tapes.{left, ends}
 use Rattle.batches.proofs.Runs.{reapply_stops, reapply_stops_then, reapply_goes}
 use Rattle.batches.proofs.journal.Journal.reapply.Goals as goal

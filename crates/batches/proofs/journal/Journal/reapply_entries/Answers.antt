@@ -1,7 +1,4 @@
-use Rattle.std.proofs.Common.{◌≡◌, ◌-◌, sym, refl, ap, ◌∙◌, arith}
-use Rattle.programs.specs.Prog.{replay}
-use Rattle.guarded_journal.specs.Programs.{reapply_all}
-use Rattle.lines.specs.Told.{rest}
+use Rattle.std.proofs.Common.{◌≡◌, ◌-◌, arith}
 use Rattle.lines.proofs.Tapes.{left}
 use Rattle.batches.proofs.Runs.{redo_left, redo_turn, redo_done}
 use Rattle.batches.proofs.journal.Journal.reapply_entries.Goals as goal

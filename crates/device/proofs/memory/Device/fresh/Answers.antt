@@ -1,6 +1,5 @@
-use Rattle.std.proofs.Common.{◌≡◌, sym, ap, ◌∙◌}
+use Rattle.std.proofs.Common.{sym, ◌∙◌}
 use Rattle.plain.specs.Device.{all_stored}
-use Rattle.device.specs.Stores.{stores_of}
 use Rattle.device.proofs.memory.Device.fresh.Goals as goal
 
 pub invariant_of-result : goal.invariant_of-result

@@ -1,4 +1,4 @@
-use Rattle.std.proofs.Common.{◌≡◌, [], sym, ap, ◌∙◌}
+use Rattle.std.proofs.Common.{[], sym, ap, ◌∙◌}
 use Rattle.plain.specs.Device.{line_at}
 use Rattle.device.proofs.Seen.{line_getD, no_line}
 use Rattle.device.proofs.memory.Device.read.Goals as goal

@@ -1,4 +1,4 @@
-use Rattle.std.proofs.Common.{◌≡◌, length, sym, ap, ◌∙◌}
+use Rattle.std.proofs.Common.{length, sym, ap, ◌∙◌}
 use Rattle.device.proofs.Seen.{seen_long, settled_so, settled_seen, lines_then, cache_then}
 use Rattle.device.proofs.memory.Device.settle.Goals as goal
 

@@ -1,4 +1,4 @@
-use Rattle.std.proofs.Common.{◌≡◌, length, sym, ap, ◌∙◌}
+use Rattle.std.proofs.Common.{length, sym, ap, ◌∙◌}
 use Rattle.plain.proofs.Stops.{stop_length}
 use Rattle.device.specs.Model.{device_of}
 use Rattle.device.proofs.Seen.{seen_long, stopped_so, stopped_seen, stop_then}

@@ -1,4 +1,4 @@
-use Rattle.std.proofs.Common.{◌≡◌, length, vec_items, sym, ap, ◌∙◌}
+use Rattle.std.proofs.Common.{length, vec_items, sym, ap, ◌∙◌}
 use Rattle.plain.specs.Device.{set_line, all_stored}
 use Rattle.plain.proofs.Stops.{length_set}
 use Rattle.device.specs.Stores.{stores_of}

@@ -1,4 +1,4 @@
-use Rattle.std.proofs.Common.{◌≡◌, arith}
+use Rattle.std.proofs.Common.{arith}
 use Rattle.sheet.specs.Entry.{event_of}
 use Rattle.host.proofs.machine.After.event.Goals as goal
 

@@ -1,4 +1,4 @@
-use Rattle.std.proofs.Common.{◌≡◌, vec_items}
+use Rattle.std.proofs.Common.{vec_items}
 use Rattle.device.specs.Model.{device_of}
 use Rattle.host.proofs.Carries.{acts}
 use Rattle.host.proofs.machine.Machine.act.Goals as goal

@@ -1,4 +1,4 @@
-use Rattle.std.proofs.Common.{◌≡◌, sym}
+use Rattle.std.proofs.Common.{sym}
 use Rattle.host.proofs.machine.Machine.answer.Goals as goal
 
 pub returns : goal.returns

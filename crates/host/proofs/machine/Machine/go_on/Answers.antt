@@ -1,7 +1,6 @@
-use Rattle.std.proofs.Common.{◌≡◌, ◌+◌, ◌-◌, ◌≤◌, [], sym, refl, ap, ◌∙◌, arith}
-use native.Mathlib.Nat.{sub-zero}
+use Rattle.std.proofs.Common.{◌+◌, ◌-◌, ◌≤◌, [], ap, ◌∙◌, arith}
 use Rattle.sheet.specs.Entry.{own}
-use Rattle.host.specs.Acts.{carried, lines_of, out_of}
+use Rattle.host.specs.Acts.{carried, out_of}
 use Rattle.host.specs.Model.{rows_of, world_of}
 use Rattle.host.proofs.Loops.{few_lines, goes_on, ends_so}
 use Rattle.host.proofs.machine.Machine.go_on.Goals as goal

@@ -1,4 +1,4 @@
-use Rattle.std.proofs.Common.{◌≡◌, replicate, sym, ap, ◌∙◌}
+use Rattle.std.proofs.Common.{replicate, ap, ◌∙◌}
 use Rattle.device.specs.Model.{device_of}
 use Rattle.host.proofs.Powers.{woken_so}
 use Rattle.host.proofs.machine.Machine.power.Goals as goal

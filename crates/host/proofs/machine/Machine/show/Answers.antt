@@ -1,4 +1,4 @@
-use Rattle.std.proofs.Common.{◌≡◌, ◌-◌, take, refl, ap, ◌∙◌}
+use Rattle.std.proofs.Common.{◌-◌, take, refl, ap, ◌∙◌}
 use Rattle.host.proofs.Rows.{taken, rows_more}
 use Rattle.host.proofs.machine.Machine.show.Goals as goal
 

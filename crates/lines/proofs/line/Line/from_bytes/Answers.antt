@@ -1,4 +1,4 @@
-use Rattle.std.proofs.Common.{◌≡◌, ℕ, List, length, sym, ap, ◌∙◌}
+use Rattle.std.proofs.Common.{◌≡◌, ℕ, List, sym, ap, ◌∙◌}
 use Rattle.programs.specs.Machine.{tidy}
 use Rattle.lines.specs.Words.{bytes_of, words_in}
 use Rattle.lines.proofs.Words.{line_back, no_line, blank_words, tidy_back, typed_bytes}

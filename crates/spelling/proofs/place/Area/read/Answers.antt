@@ -1,6 +1,6 @@
 use Rattle.std.proofs.Common.{◌≡◌, true, false, ◌&&◌, leb, arith}
 use Rattle.std.proofs.lemmas.Bool.Decides.{nat_tests}
-use Rattle.plain.specs.Read.{read_box, only}
+use Rattle.plain.specs.Read.{only}
 use Rattle.spelling.proofs.place.Area.read.Goals as goal
 
 pub returns-in_default : goal.returns-in_default
