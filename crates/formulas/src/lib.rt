@@ -1,6 +1,6 @@
 // Formulas and commands, read from their bytes: which bytes are a command, its parts, and whether it is of the core.
 // A formula is passed over as bytes by recursion with a depth that falls, and no tree of it is built.
-// Readers refuse by `let .. else` and not by `?`, since its proof takes half the time.
+// Readers refuse by `let .. else` and not by `?`, since its proof took half the time where that was measured, on an older kit.
 #![tactic(auto)]
 
 ghost use Rattle.formulas.specs.Told.{ToldRight};

@@ -35,7 +35,7 @@ fn told(heap: Global, code: &[u8]) -> Result<String, AllocError> {
 
 fn hold_line(rt: &impl Abort, heap: Global, line: &str) -> Result<(), Fail> {
     let Some((expected, code)) = line.split_once(':') else {
-        return Err(Fail::new("a line without a colon"));
+        return Err(Fail::new(format_args!("a line without a colon: {line}")));
     };
     let code = bytes(heap, code)?;
     let found = told(heap, code.as_slice())?;

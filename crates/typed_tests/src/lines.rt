@@ -26,7 +26,7 @@ fn bytes(heap: Global, words: &str) -> Result<Vec<u8>, Fail> {
 fn command(heap: Global, line: &str) -> Result<Vec<u8>, Fail> {
     match read_line(heap, line.as_bytes()) {
         Ok(Line::Command { bytes, answer: _ }) => Ok(bytes),
-        _ => Err(Fail::new("no command")),
+        _ => Err(Fail::new(format_args!("no command: {line}"))),
     }
 }
 
@@ -39,7 +39,7 @@ fn hold_bytes(rt: &impl Abort, heap: Global, line: &str, words: &str) -> Result<
 
 fn hold_refusal(rt: &impl Abort, heap: Global, line: &str, words: &str) -> Result<(), Fail> {
     match read_line(heap, line.as_bytes()) {
-        Ok(_) => Err(Fail::new("it was read")),
+        Ok(_) => Err(Fail::new(format_args!("it was read: {line}"))),
         Err(e) => {
             let found = e.to_string(heap)?;
             assert_eq!(rt; found.as_str(), words, "{line}");
