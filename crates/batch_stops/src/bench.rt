@@ -1,5 +1,5 @@
 // A device, and the tape of the stage that runs on it: what the engine does act by act, for one batch or one recovery.
-use batches::journal::{Journal, batch};
+use batches::journaling::{Journal, batch};
 use batches::steps::Write;
 use device::memory::Device;
 use lines::act::Act;

@@ -7,8 +7,10 @@ use Rattle.plain.specs.Read.{number}
 use Rattle.plain.specs.Run.{Act, read, store, settle}
 use Rattle.plain.specs.Term.{pick}
 use Rattle.programs.specs.Prog.{Prog, ret, ask, bind, Out, came, wants, replay}
-use Rattle.guarded_journal.specs.Journal.{Write, word, word_line}
-use Rattle.guarded_journal.specs.Programs.{write, log, log_all, apply, apply_all, commit, clear, batch, committed, is_durable_lem, put_back, reapply, reapply_all, recover, recover_so}
+use Rattle.journal.specs.Journal.{Write, word, word_line}
+use Rattle.journal.specs.Programs.{write, log, log_all, apply, apply_all, commit, clear, batch}
+use Rattle.journal.proofs.Lines.{word_number}
+use Rattle.guarded_journal.specs.Programs.{committed, is_durable_lem, put_back, reapply, reapply_all, recover, recover_so}
 use Rattle.lines.specs.Told.{does}
 use Rattle.lines.specs.Words.{number_line}
 use Rattle.lines.proofs.Tapes.{goes, stops, ends, read_goes, read_stops}
@@ -47,14 +49,12 @@ module _ (i k : ℕ) (w : Write) (l : Line) (t : List Line) (e : k ≡ 1 + 2 * i
 -- the superblock is read
 module _ (most : ℕ) (t t' : List Line) (l : Line) (e : replay (ask (read 0) ret) t ≡ came l t') where
   pub committed_none : (n : ℕ) → n ≡ number (take 8 l) → most < n → replay (ask (read 0) (λ p. ret (committed most p))) t ≡ came 0 t'
-  unfolding word
   committed_none n h b =
-      read_goes 0 (λ p. ret (committed most p)) t t' l (came 0 t') e (ends t' (sym (rw (← h, lt-leb n most b))))
+      read_goes 0 (λ p. ret (committed most p)) t t' l (came 0 t') e (ends t' (sym (rw (word_number l, ← h, lt-leb n most b))))
 
   pub committed_some : (n : ℕ) → n ≡ number (take 8 l) → n ≤ most → replay (ask (read 0) (λ p. ret (committed most p))) t ≡ came n t'
-  unfolding word
   committed_some n h b =
-      read_goes 0 (λ p. ret (committed most p)) t t' l (came n t') e (ends t' (sym (rw (← h, le-leb n most b))))
+      read_goes 0 (λ p. ret (committed most p)) t t' l (came n t') e (ends t' (sym (rw (word_number l, ← h, le-leb n most b))))
 
 -- an entry is applied by what is logged of it
 module _ (most last i : ℕ) (k : ℕ) (t : List Line) (g : k ≡ 1 + 2 * i) where
@@ -73,9 +73,8 @@ module _ (most last i : ℕ) (k : ℕ) (t : List Line) (g : k ≡ 1 + 2 * i) whe
 
     pub reapply_goes : (t'' : List Line) (p : Line) (n : ℕ) (b : Bool) (o : Out (Unit {0})) → replay (ask (read j) ret) t' ≡ came p t'' → n ≡ number (take 8 l) → is_durable_lem most last n ≡ b
         → replay (pick b (write n p) (ret tt)) t'' ≡ o → replay (reapply most last i) t ≡ o
-    unfolding word
     reapply_goes t'' p n b o f m d q =
-        one_read o (read_goes (2 + 2 * i) (λ p. put_back most last (word l) p) t' t'' p o (subst (λ z. replay (ask (read z) ret) t' ≡ came p t'') h f) (rw (← m, d) q))
+        one_read o (read_goes (2 + 2 * i) (λ p. put_back most last (word l) p) t' t'' p o (subst (λ z. replay (ask (read z) ret) t' ≡ came p t'') h f) (rw (word_number l, ← m, d) q))
 
 -- loops: what is left gives the whole
 each_drop : (ws : List code.Write) (i : ℕ) (d : code.Write) → i < length ws → writes_of (drop i ws) ≡ write_of (get_or ws i d) ∷ writes_of (drop (i + 1) ws)

@@ -1,7 +1,7 @@
 -- Which write of the journal a write of the code is. Assumes nothing: these are definitions.
 use Rattle.std.specs.Prelude.{List}
 use Rattle.plain.specs.Term.{each}
-use Rattle.guarded_journal.specs.Journal as journal
+use Rattle.journal.specs.Journal as journal
 use Rattle.lines.specs.Words.{line_of}
 use Rattle.batches.specs.declared.steps.Write.{Write}
 

@@ -3,7 +3,7 @@ ghost use Rattle.std.specs.Prelude.{◌≡◌, ◌+◌, ◌*◌};
 ghost use Rattle.programs.specs.Prog.{replay};
 ghost use Rattle.lines.specs.Told.{rest, told};
 ghost use Rattle.lines.specs.Words.{line_of};
-ghost use Rattle.guarded_journal.specs.Programs.{apply as applied, clear as cleared, commit as committed, log as logged, write as written};
+ghost use Rattle.journal.specs.Programs.{apply as applied, clear as cleared, commit as committed, log as logged, write as written};
 ghost use Rattle.batches.specs.Writes.{write_of};
 
 use lines::act::Act;

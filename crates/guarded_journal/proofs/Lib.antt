@@ -1,4 +1,2 @@
-pub mod Lines
-pub mod Commit
-pub mod Holds
+pub mod Recovery
 pub mod Stages

@@ -1,3 +1,2 @@
-pub mod Journal
 pub mod Programs
 pub mod Promises

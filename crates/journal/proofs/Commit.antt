@@ -24,9 +24,15 @@ pub after_is : {A : Type 0} (S : List Line → Type 0) (C : At → Type 0) (P : 
     → Safe C p s (After S P ss u) → Safe C p s (After S P ss v)
 after_is S C P ss u v p s e h = subst (λ w. Safe C p s (After S P ss w)) e h
 
+-- a program that does the next of the writes again, by what is logged
+abbrev pub Redoes : (Y : Layout) → (List Line → Type 0) → (At → Type 0) → List (List ℕ) → (ℕ → Line) → List Write → (ℕ → Prog (Unit {0})) → Type 0
+Redoes Y S C ss D ws again =
+    (us : List Write) (w : Write) (vs : List Write) (d : Device) (u : ℕ) → ws ≡ us ++ w ∷ vs → Is S (Committed Y D ws (w ∷ vs)) d
+    → Safe C (again (length us)) (at d ss u) (After S (Committed Y D ws vs) ss (suc (suc (suc u))))
+
 -- R is what a stop may find; C holds wherever it does
 module _ (Y : Layout) (S : List Line → Type 0) (stable : Stable Y S) (C : At → Type 0) (ss : List (List ℕ)) (R : List Line → Type 0) (cover : (d : Device) (u : ℕ) → Always R d → C (at d ss u)) where
-  covered : (P : List Line → Type 0) → ((ls : List Line) → P ls → R ls) → (d : Device) (u : ℕ) → Is S P d → C (at d ss u)
+  pub covered : (P : List Line → Type 0) → ((ls : List Line) → P ls → R ls) → (d : Device) (u : ℕ) → Is S P d → C (at d ss u)
   covered P f d u a = cover d u (λ cs. f (stop d cs) (a.0 cs))
 
   device_size : (P : List Line → Type 0) → ((ls : List Line) → P ls → Sound Y ls) → (d : Device) → Is S P d → length d.lines ≡ Y.lines
@@ -131,16 +137,16 @@ module _ (Y : Layout) (S : List Line → Type 0) (stable : Stable Y S) (C : At �
         (λ x d₁ a₁. after_is S C (Committed Y D ws []) ss (suc u + length vs) (u + suc (length vs)) (apply_all vs) (at d₁ ss (suc u)) (omega arith)
         (apply_all_safe (us ++ w ∷ []) vs d₁ (suc u) (e ∙ sym (append_assoc us (w ∷ []) vs)) a₁))
 
-    -- the same from the entries
-    pub reapply_safe : (us : List Write) (w : Write) (vs : List Write) (d : Device) (u : ℕ) → ws ≡ us ++ w ∷ vs
-        → Is S (Committed Y D ws (w ∷ vs)) d → Safe C (reapply (length us)) (at d ss u) (After S (Committed Y D ws vs) ss (suc (suc (suc u))))
-    reapply_safe us w vs d u e a =
+    -- an entry is read, and something is done with its target and its content
+    pub entry_safe : (put : ℕ → Line → Prog (Unit {0})) (us : List Write) (w : Write) (vs : List Write) (d : Device) (u : ℕ) → ws ≡ us ++ w ∷ vs
+        → Is S (Committed Y D ws (w ∷ vs)) d → Safe C (put w.to w.text) (at d ss (suc (suc u))) (After S (Committed Y D ws vs) ss (suc (suc (suc u))))
+        → Safe C (ask (read (1 + 2 * length us)) (λ k. ask (read (2 + 2 * length us)) (λ p. put (word k) p))) (at d ss u) (After S (Committed Y D ws vs) ss (suc (suc (suc u))))
+    entry_safe put us w vs d u e a h =
         let room = Y.room in let inside = Y.inside in
-        read_safe P Q d u (1 + 2 * length us) (λ k. ask (read (2 + 2 * length us)) (λ p. write (word k) p)) (λ ls h. h.0.sound) (λ ls h. committed ls h.0) (omega (arith, short)) a
-        (read_safe P Q d (suc u) (2 + 2 * length us) (λ p. write (word (line_at (seen d) (1 + 2 * length us))) p) (λ ls h. h.0.sound) (λ ls h. committed ls h.0) (omega (arith, short)) a
-        (subst (λ k. Safe C (write k (line_at (seen d) (2 + 2 * length us))) (at d ss (suc (suc u))) Q) (sym there.0)
-        (subst (λ p. Safe C (write w.to p) (at d ss (suc (suc u))) Q) (sym there.1)
-        (apply_safe us w vs d (suc (suc u)) e a))))
+        read_safe P Q d u (1 + 2 * length us) (λ k. ask (read (2 + 2 * length us)) (λ p. put (word k) p)) (λ ls h. h.0.sound) (λ ls h. committed ls h.0) (omega (arith, short)) a
+        (read_safe P Q d (suc u) (2 + 2 * length us) (λ p. put (word (line_at (seen d) (1 + 2 * length us))) p) (λ ls h. h.0.sound) (λ ls h. committed ls h.0) (omega (arith, short)) a
+        (subst (λ k. Safe C (put k (line_at (seen d) (2 + 2 * length us))) (at d ss (suc (suc u))) Q) (sym there.0)
+        (subst (λ p. Safe C (put w.to p) (at d ss (suc (suc u))) Q) (sym there.1) h)))
       where
         P : List Line → Type 0
         P = Committed Y D ws (w ∷ vs)
@@ -157,20 +163,34 @@ module _ (Y : Layout) (S : List Line → Type 0) (stable : Stable Y S) (C : At �
             subst (λ j. (word (line_at (seen d) (1 + 2 * j)) ≡ w.to) × (line_at (seen d) (2 + 2 * j) ≡ w.text)) z
             (logged_at (seen d) 0 us w vs (subst (λ xs. Logged (seen d) 0 xs) e (always_seen P d a.0).0.logged))
 
+    -- the same as applying them, from the entries
+    pub reapply_safe : (us : List Write) (w : Write) (vs : List Write) (d : Device) (u : ℕ) → ws ≡ us ++ w ∷ vs
+        → Is S (Committed Y D ws (w ∷ vs)) d → Safe C (reapply (length us)) (at d ss u) (After S (Committed Y D ws vs) ss (suc (suc (suc u))))
+    reapply_safe us w vs d u e a = entry_safe write us w vs d u e a (apply_safe us w vs d (suc (suc u)) e a)
+
+    -- all of them, one after the other
+    module _ (again : ℕ → Prog (Unit {0})) (all : ℕ → ℕ → Prog (Unit {0})) (none : (i : ℕ) → all i 0 ≡ ret tt) (more : (i m : ℕ) → all i (suc m) ≡ bind (again i) (λ a. all (suc i) m))
+        (redoes : Redoes Y S C ss D ws again) where
+      pub redo_all_safe : (us vs : List Write) (d : Device) (u : ℕ) → ws ≡ us ++ vs
+          → Is S (Committed Y D ws vs) d → Safe C (all (length us) (length vs)) (at d ss u) (After S (Committed Y D ws []) ss (u + 3 * length vs))
+      redo_all_safe us [] d u e a =
+          subst (λ p. Safe C p (at d ss u) (After S (Committed Y D ws []) ss (u + 3 * 0))) (sym (none (length us)))
+          (safe_ret C (After S (Committed Y D ws []) ss (u + 3 * 0)) (at d ss u) tt (covered (Committed Y D ws []) (λ ls h. committed ls h.0) d u a)
+          (d, ap (λ v. at d ss v) (omega arith), a))
+      redo_all_safe us (w ∷ vs) d u e a =
+          let n : length (us ++ w ∷ []) ≡ suc (length us) = length-append us (w ∷ []) ∙ omega arith in
+          subst (λ p. Safe C p (at d ss u) (After S (Committed Y D ws []) ss (u + 3 * suc (length vs)))) (sym (more (length us) (length vs)))
+          (and_then S C (After S (Committed Y D ws []) ss (u + 3 * suc (length vs))) (Committed Y D ws vs) ss (suc (suc (suc u))) (again (length us)) (λ x. all (suc (length us)) (length vs)) (at d ss u)
+          (redoes us w vs d u e a)
+          (λ x d₁ a₁.
+          subst (λ i. Safe C (all i (length vs)) (at d₁ ss (suc (suc (suc u)))) (After S (Committed Y D ws []) ss (u + 3 * suc (length vs)))) n
+          (after_is S C (Committed Y D ws []) ss (suc (suc (suc u)) + 3 * length vs) (u + 3 * suc (length vs)) (all (length (us ++ w ∷ [])) (length vs)) (at d₁ ss (suc (suc (suc u)))) (omega arith)
+          (redo_all_safe (us ++ w ∷ []) vs d₁ (suc (suc (suc u))) (e ∙ sym (append_assoc us (w ∷ []) vs)) a₁))))
+
     pub reapply_all_safe : (us vs : List Write) (d : Device) (u : ℕ) → ws ≡ us ++ vs
         → Is S (Committed Y D ws vs) d → Safe C (reapply_all (length us) (length vs)) (at d ss u) (After S (Committed Y D ws []) ss (u + 3 * length vs))
     unfolding reapply_all
-    reapply_all_safe us [] d u e a =
-        safe_ret C (After S (Committed Y D ws []) ss (u + 3 * 0)) (at d ss u) tt (covered (Committed Y D ws []) (λ ls h. committed ls h.0) d u a)
-        (d, ap (λ v. at d ss v) (omega arith), a)
-    reapply_all_safe us (w ∷ vs) d u e a =
-        let n : length (us ++ w ∷ []) ≡ suc (length us) = length-append us (w ∷ []) ∙ omega arith in
-        and_then S C (After S (Committed Y D ws []) ss (u + 3 * suc (length vs))) (Committed Y D ws vs) ss (suc (suc (suc u))) (reapply (length us)) (λ x. reapply_all (suc (length us)) (length vs)) (at d ss u)
-        (reapply_safe us w vs d u e a)
-        (λ x d₁ a₁.
-        subst (λ i. Safe C (reapply_all i (length vs)) (at d₁ ss (suc (suc (suc u)))) (After S (Committed Y D ws []) ss (u + 3 * suc (length vs)))) n
-        (after_is S C (Committed Y D ws []) ss (suc (suc (suc u)) + 3 * length vs) (u + 3 * suc (length vs)) (reapply_all (length (us ++ w ∷ [])) (length vs)) (at d₁ ss (suc (suc (suc u)))) (omega arith)
-        (reapply_all_safe (us ++ w ∷ []) vs d₁ (suc (suc (suc u))) (e ∙ sym (append_assoc us (w ∷ []) vs)) a₁)))
+    reapply_all_safe us vs d u e a = redo_all_safe reapply reapply_all (λ i. refl) (λ i m. refl) reapply_safe us vs d u e a
 
     -- 4. they are cleared
     pub clear_safe : (d : Device) (u : ℕ) → ((ls : List Line) → Marks Y D [] ls → R ls)

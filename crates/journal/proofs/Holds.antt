@@ -1,10 +1,12 @@
 -- What the layers above need of the journal: what a device holds, what survives a stop, and one statement for each program.
 use Rattle.std.proofs.Common.{◌≡◌, ℕ, zero, suc, ◌+◌, ◌*◌, ◌<◌, ◌≤◌, true, List, [], ◌∷◌, length, sym, refl, ap, ◌∙◌, subst, inl, inr, arith}
 use Rattle.plain.specs.Device.{Device, Line, read_line, storing, settled, stopped, a_line, line_at, so_many_of, fresh}
-use Rattle.programs.specs.Prog.{bind}
+use Rattle.plain.specs.Run.{read}
+use Rattle.programs.specs.Prog.{Prog, ret, ask, bind}
 use Rattle.programs.specs.Machine.{At, at, Safe}
 use Rattle.programs.proofs.Rules.{safe_weak, safe_ret}
-use Rattle.plain.specs.Stopping.{seen, stop, Always}
+use Rattle.plain.specs.Stopping.{seen, stop, Always, Is}
+use Rattle.plain.proofs.Many.{length_many}
 use Rattle.plain.proofs.Stops.{stop_length, always_seen, always_store, always_settle, always_quiet}
 use Rattle.journal.specs.Journal.{Write, latest, written, value, word, Layout, first, Logged, Good, Says, Marks, Survives, Ready, Committed, Free}
 use Rattle.journal.specs.Programs.{Stable, Derived, log_all, commit, apply_all, clear, reapply_all, batch, recover, recover_so, After}
@@ -12,11 +14,6 @@ use Rattle.journal.specs.Promises as promises
 use Rattle.journal.specs.Promises.{nothing, WholeOrNot, RecoveredSo, LogicalSo}
 use Rattle.journal.proofs.Lines.{idle_survives, marks_free, marks_as, survives_says, says_survives}
 use Rattle.journal.proofs.Commit.{derived_stable, and_then, after_is, read_safe, log_all_safe, commit_safe, apply_all_safe, reapply_all_safe, clear_safe}
-
-length_of_many : {A : Type 0} (n : ℕ) (x : A) → length (so_many_of n x) ≡ n
-unfolding so_many_of
-length_of_many zero x = refl
-length_of_many (suc n) x = ap suc (length_of_many n x)
 
 at_of_many : (n k : ℕ) (x : Line) → k < n → line_at (so_many_of n x) k ≡ x
 unfolding so_many_of line_at
@@ -59,7 +56,7 @@ module _ (Y : Layout) where
       let room = Y.room in let inside = Y.inside in
       idle_survives Y nothing (so_many_of Y.lines (so_many_of 64 0)) (record {
         sound = record {
-          size = length_of_many Y.lines (so_many_of 64 0);
+          size = length_many Y.lines (so_many_of 64 0);
           lined = λ k h. ap (λ l. a_line l) (at_of_many Y.lines k (so_many_of 64 0) h);
         };
         head = ap word (at_of_many Y.lines 0 (so_many_of 64 0) (omega arith));
@@ -105,31 +102,46 @@ module _ (Y : Layout) where
     abbrev pub Recovered : ℕ → Unit {0} → At → Type 0
     Recovered u a s = (v : ℕ) × (v ≤ u + (3 * Y.most + 2)) × After S (Marks Y D []) ss v a s
 
+    -- the superblock is read, and so many writes are done again and cleared: `count` says how many a superblock means, `all` does them again
+    module _ (count : Line → ℕ) (counts : (l : Line) (m : ℕ) → word l ≡ m → m ≤ Y.most → count l ≡ m) (all : ℕ → Prog (Unit {0}))
+        (redone : (ws : List Write) → length ws ≤ Y.most → Good Y ws → ((ls : List Line) → Marks Y D ws ls → Survives Y D ls) → ((d : Device) (u : ℕ) → Always (Survives Y D) d → C (at d ss u))
+        → (d : Device) (u : ℕ) → Is S (Committed Y D ws ws) d → Safe C (all (length ws)) (at d ss u) (After S (Committed Y D ws []) ss (u + 3 * length ws)))
+        (so : ℕ → Prog (Unit {0})) (none : so 0 ≡ ret tt) (some : (m : ℕ) → so (suc m) ≡ bind (all (suc m)) (λ a. clear)) where
+      pub redo_safe : ((d : Device) (u : ℕ) → Always (Survives Y D) d → C (at d ss u)) → (d : Device) (u : ℕ) → d.cache ≡ [] → Survives Y D d.lines → S (seen d)
+          → Safe C (ask (read 0) (λ l. so (count l))) (at d ss u) (Recovered u)
+      unfolding latest
+      redo_safe cover d u quiet s z =
+          read_safe Y S stable C ss (Survives Y D) cover (Marks Y D s.committed) (Recovered u) d u 0 (λ l. so (count l))
+          (λ ls h. h.sound) (commits s.committed s.few s.good) (let room = Y.room in let inside = Y.inside in omega arith) (here, z)
+          (subst (λ m. Safe C (so m) (at d ss (suc u)) (Recovered u)) (sym (counts (line_at (seen d) 0) (length s.committed) (always_seen (Marks Y D s.committed) d here).head s.few))
+          (go s.committed s.few s.good here))
+        where
+          here : Always (Marks Y D s.committed) d
+          here = always_quiet (Marks Y D s.committed) d quiet s.marks
+
+          commits : (ws : List Write) → length ws ≤ Y.most → Good Y ws → (ls : List Line) → Marks Y D ws ls → Survives Y D ls
+          commits ws few good ls k = record { committed = ws; few = few; good = good; marks = k }
+
+          go : (ws : List Write) → length ws ≤ Y.most → Good Y ws → Always (Marks Y D ws) d → Safe C (so (length ws)) (at d ss (suc u)) (Recovered u)
+          go [] few good a =
+              subst (λ p. Safe C p (at d ss (suc u)) (Recovered u)) (sym none)
+              (safe_ret C (Recovered u) (at d ss (suc u)) tt (cover d (suc u) (λ cs. idle_survives Y D (stop d cs) (a cs))) (suc u, omega arith, (d, refl, (a, z))))
+          go (w ∷ ws) few good a =
+              let m : ℕ = length (w ∷ ws) in
+              subst (λ p. Safe C p (at d ss (suc u)) (Recovered u)) (sym (some (length ws)))
+              (and_then S C (Recovered u) (Committed Y D (w ∷ ws) []) ss (suc u + 3 * m) (all m) (λ x. clear) (at d ss (suc u))
+              (redone (w ∷ ws) few good (commits (w ∷ ws) few good) cover d (suc u) ((λ cs. (a cs, (a cs).says)), z))
+              (λ x d₁ a₁. safe_weak C C (After S (Marks Y D []) ss (suc (suc u + 3 * m))) (Recovered u) clear (at d₁ ss (suc u + 3 * m)) (λ s₁ c. c)
+              (λ y s₁ k. (suc (suc u + 3 * m), omega arith, k))
+              (clear_safe Y S stable C ss (Survives Y D) cover D (w ∷ ws) few good (commits (w ∷ ws) few good) d₁ (suc u + 3 * m) (idle_survives Y D) a₁)))
+
     pub recover_safe : ((d : Device) (u : ℕ) → Always (Survives Y D) d → C (at d ss u)) → (d : Device) (u : ℕ) → d.cache ≡ [] → Survives Y D d.lines → S (seen d)
         → Safe C recover (at d ss u) (Recovered u)
-    unfolding recover_so latest
-    recover_safe cover d u quiet s z =
-        read_safe Y S stable C ss (Survives Y D) cover (Marks Y D s.committed) (Recovered u) d u 0 (λ l. recover_so (word l))
-        (λ ls h. h.sound) (commits s.committed s.few s.good) (let room = Y.room in let inside = Y.inside in omega arith) (here, z)
-        (subst (λ m. Safe C (recover_so m) (at d ss (suc u)) (Recovered u)) (sym (always_seen (Marks Y D s.committed) d here).head)
-        (go s.committed s.few s.good here))
-      where
-        here : Always (Marks Y D s.committed) d
-        here = always_quiet (Marks Y D s.committed) d quiet s.marks
-
-        commits : (ws : List Write) → length ws ≤ Y.most → Good Y ws → (ls : List Line) → Marks Y D ws ls → Survives Y D ls
-        commits ws few good ls k = record { committed = ws; few = few; good = good; marks = k }
-
-        go : (ws : List Write) → length ws ≤ Y.most → Good Y ws → Always (Marks Y D ws) d → Safe C (recover_so (length ws)) (at d ss (suc u)) (Recovered u)
-        go [] few good a =
-            safe_ret C (Recovered u) (at d ss (suc u)) tt (cover d (suc u) (λ cs. idle_survives Y D (stop d cs) (a cs))) (suc u, omega arith, (d, refl, (a, z)))
-        go (w ∷ ws) few good a =
-            let m : ℕ = length (w ∷ ws) in
-            and_then S C (Recovered u) (Committed Y D (w ∷ ws) []) ss (suc u + 3 * m) (reapply_all 0 m) (λ x. clear) (at d ss (suc u))
-            (reapply_all_safe Y S stable C ss (Survives Y D) cover D (w ∷ ws) few good (commits (w ∷ ws) few good) [] (w ∷ ws) d (suc u) refl ((λ cs. (a cs, (a cs).says)), z))
-            (λ x d₁ a₁. safe_weak C C (After S (Marks Y D []) ss (suc (suc u + 3 * m))) (Recovered u) clear (at d₁ ss (suc u + 3 * m)) (λ s₁ c. c)
-            (λ y s₁ k. (suc (suc u + 3 * m), omega arith, k))
-            (clear_safe Y S stable C ss (Survives Y D) cover D (w ∷ ws) few good (commits (w ∷ ws) few good) d₁ (suc u + 3 * m) (idle_survives Y D) a₁))
+    unfolding recover_so
+    recover_safe =
+        redo_safe word (λ l m e h. e) (reapply_all 0)
+        (λ ws few good marks cover d u a. reapply_all_safe Y S stable C ss (Survives Y D) cover D ws few good marks [] ws d u refl a)
+        recover_so refl (λ m. refl)
 
   abbrev pub None : List Line → Type 0
   None ls = Unit {0}
@@ -138,17 +150,25 @@ module _ (Y : Layout) where
   abbrev Recovers : (ℕ → Line) → Device → Type 0
   Recovers D d = promises.Recovers Y D d
 
-  pub recovers : (D : ℕ → Line) (d : Device) (cs : List ℕ) → Always (Survives Y D) d → Recovers D (stopped d cs)
-  recovers D d cs a =
-      safe_weak C C (Recovered None (λ ls k p lt x. tt) C [] D 0) (λ x s. Holds D s.device × (s.used ≤ 3 * Y.most + 2)) recover (at (stopped d cs) [] 0) (λ s c. c)
+  -- a program of which this is proved with nothing to keep beside the journal
+  pub recovers_by : (p : Prog (Unit {0})) (D : ℕ → Line) (d : Device) (cs : List ℕ)
+      → Safe (λ s. Always (Survives Y D) s.device) p (at (stopped d cs) [] 0) (Recovered None (λ ls k p lt x. tt) (λ s. Always (Survives Y D) s.device) [] D 0)
+      → Safe (λ s. Always (Survives Y D) s.device) p (at (stopped d cs) [] 0) (λ a s. Holds D s.device × (s.used ≤ 3 * Y.most + 2))
+  recovers_by p D d cs h =
+      safe_weak C C (Recovered None (λ ls k p lt x. tt) C [] D 0) (λ x s. Holds D s.device × (s.used ≤ 3 * Y.most + 2)) p (at (stopped d cs) [] 0) (λ s c. c)
       (λ x s h. (
         subst (λ (s : At). Holds D s.device) (sym h.2.1) h.2.2.0,
         subst (λ (s : At). s.used ≤ 3 * Y.most + 2) (sym h.2.1) (let b = h.1 in omega arith),
       ))
-      (recover_safe None (λ ls k p lt x. tt) C [] D (λ d₁ u b. b) (stopped d cs) 0 refl (a cs) tt)
+      h
     where
       C : At → Type 0
       C s = Always (Survives Y D) s.device
+
+  pub recovers : (D : ℕ → Line) (d : Device) (cs : List ℕ) → Always (Survives Y D) d → Recovers D (stopped d cs)
+  recovers D d cs a =
+      recovers_by recover D d cs
+      (recover_safe None (λ ls k p lt x. tt) (λ s. Always (Survives Y D) s.device) [] D (λ d₁ u b. b) (stopped d cs) 0 refl (a cs) tt)
 
 pub whole_or_not : WholeOrNot
 unfolding WholeOrNot

@@ -1,11 +1,22 @@
 -- What putting one line in does to what the journal's lines say: an entry logged, the commit, one entry applied, the superblock cleared.
-use Rattle.std.proofs.Common.{◌≡◌, ℕ, zero, suc, ◌+◌, ◌*◌, ◌/◌, ◌%◌, ◌<◌, ◌≤◌, Bool, true, false, eqb, ltb, List, [], ◌∷◌, ◌++◌, length, sym, refl, ap, ◌∙◌, subst, ap₂, inl, inr, arith}
+use Rattle.std.proofs.Common.{◌≡◌, ℕ, zero, suc, ◌+◌, ◌*◌, ◌/◌, ◌%◌, ◌<◌, ◌≤◌, Bool, true, false, eqb, ltb, List, [], ◌∷◌, ◌++◌, length, sym, refl, ap, ◌∙◌, subst, ap₂, inl, inr, take, arith}
 use Rattle.plain.specs.Term.{pick, in_bytes}
+use Rattle.plain.specs.Read.{number_after, number}
 use Rattle.plain.specs.Device.{Line, set_line, line_at, a_line, so_many_of}
 use Rattle.std.proofs.lemmas.Bool.{eqb-true, eqb-false, lt-ltb}
 use Rattle.plain.proofs.Stops.{length_set, at_same, at_other}
 use Rattle.journal.specs.Journal as j
 use Rattle.journal.specs.Journal.{value, word, word_line, Write, latest, written, Layout, Logged, entries, logical}
+
+-- the number in a line is the plain definition's
+value_number : (n : ℕ) (bs : List ℕ) → value n bs ≡ number_after n bs
+unfolding value number_after
+value_number n [] = refl
+value_number n (b ∷ bs) = value_number (n * 256 + b) bs
+
+pub word_number : (l : Line) → word l ≡ number (take 8 l)
+unfolding word
+word_number l = value_number 0 (take 8 l)
 
 power : ℕ → ℕ
 power zero = 1

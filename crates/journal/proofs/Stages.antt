@@ -12,7 +12,7 @@ use Rattle.journal.specs.Journal.{Write, written, word, word_line, Layout, first
 use Rattle.journal.specs.Programs.{Stable, write, log, log_all, commit, apply, apply_all, clear, reapply, reapply_all, After}
 use Rattle.journal.specs.Promises.{Holds, Either}
 use Rattle.journal.proofs.Lines.{good_at, idle_survives}
-use Rattle.journal.proofs.Commit.{log_safe, commit_safe, reapply_safe, clear_safe}
+use Rattle.journal.proofs.Commit.{Redoes, log_safe, commit_safe, reapply_safe, clear_safe}
 
 abbrev pub Any : {A : Type 0} → A → Type 0
 Any a = Unit {0}
@@ -57,16 +57,19 @@ Makes S C Y ss D ws cost make =
     → Safe C (make (length us)) (at d ss u) (λ x s. (x ≡ w) × (v : ℕ) × (v ≤ u + cost) × After S (Ready Y D us) ss v x s)
 
 module _ (M : Machine) (Ok : M.Reg → Type 0) where
-  -- registers whose stages note m writes, each made by a program, and agree; and registers whose stages do m writes by the entries, and forget
+  -- registers whose stages note m writes, each made by a program, and agree; and registers whose stages do m writes again, as by the entries, and forget
   pub record Logging (m : ℕ) (make : ℕ → Prog Write) (reg : ℕ → M.Reg) (next : M.Reg) : Type 0 where
     pub each : (i : ℕ) → i < m → M.stage (reg i) ≡ bind (make i) (λ w. bind (log i w) (λ a. ret (then (reg (suc i)))))
     pub end : M.stage (reg m) ≡ bind (commit m) (λ a. ret (then next))
     pub ok : (i : ℕ) → i ≤ m → Ok (reg i)
 
-  pub record Reapplying (m : ℕ) (reg : ℕ → M.Reg) (fin : Prog (Next M.Reg)) : Type 0 where
-    pub each : (i : ℕ) → i < m → M.stage (reg i) ≡ bind (reapply i) (λ a. ret (then (reg (suc i))))
+  pub record Redoing (again : ℕ → Prog (Unit {0})) (m : ℕ) (reg : ℕ → M.Reg) (fin : Prog (Next M.Reg)) : Type 0 where
+    pub each : (i : ℕ) → i < m → M.stage (reg i) ≡ bind (again i) (λ a. ret (then (reg (suc i))))
     pub end : M.stage (reg m) ≡ bind clear (λ a. fin)
     pub ok : (i : ℕ) → i ≤ m → Ok (reg i)
+
+  abbrev pub Reapplying : ℕ → (ℕ → M.Reg) → Prog (Next M.Reg) → Type 0
+  Reapplying m reg fin = Redoing reapply m reg fin
 
 module _ (M : Machine) (Ok : M.Reg → Type 0) (C : At → Type 0) (Q : M.Reg → ℕ → At → Type 0) where
   -- a program that is safe, and then one that goes well
@@ -90,28 +93,35 @@ module _ (M : Machine) (Ok : M.Reg → Type 0) (C : At → Type 0) (Q : M.Reg �
 
     module _ (D : ℕ → Line) (ws : List Write) (few : length ws ≤ Y.most) (good : Good Y ws) where
       -- 3 and 4, and recovery
-      pub reapply_goes : (committed : (ls : List Line) → Marks Y D ws ls → R ls) (idle : (ls : List Line) → Marks Y D [] ls → R ls)
-          (reg : ℕ → M.Reg) (fin : Prog (Next M.Reg)) → Reapplying M Ok (length ws) reg fin
+      pub redo_goes : (again : ℕ → Prog (Unit {0})) → Redoes Y S C ss D ws again → (committed : (ls : List Line) → Marks Y D ws ls → R ls) (idle : (ls : List Line) → Marks Y D [] ls → R ls)
+          (reg : ℕ → M.Reg) (fin : Prog (Next M.Reg)) → Redoing M Ok again (length ws) reg fin
           → (us vs : List Write) (d : Device) (u : ℕ) → ws ≡ us ++ vs → Is S (Committed Y D ws vs) d
           → ((d₁ : Device) → Is S (Marks Y D []) d₁ → Going M Ok C Q fin (at d₁ ss (suc (u + 3 * length vs))))
           → GoesSo (reg (length us)) (at d ss u)
-      reapply_goes committed idle reg fin r us [] d u e a k =
+      redo_goes again redoes committed idle reg fin r us [] d u e a k =
           let n : length ws ≡ length us = ap length (e ∙ append-nil us) in
           let z : suc (u + 3 * 0) ≡ suc u = omega arith in
           subst (λ p. Going M Ok C Q p (at d ss u)) (sym (ap (λ i. M.stage (reg i)) (sym n) ∙ r.end))
           (go_on S (Marks Y D []) ss (suc u) clear (λ x. fin) (at d ss u) (clear_safe Y S stable C ss R cover D ws few good committed d u idle a)
           (λ x d₁ a₁. subst (λ v. Going M Ok C Q fin (at d₁ ss v)) z (k d₁ a₁)))
-      reapply_goes committed idle reg fin r us (w ∷ vs) d u e a k =
+      redo_goes again redoes committed idle reg fin r us (w ∷ vs) d u e a k =
           let n : length ws ≡ length us + suc (length vs) = ap length e ∙ length-append us (w ∷ vs) in
           let m : length (us ++ w ∷ []) ≡ suc (length us) = length-append us (w ∷ []) ∙ omega arith in
           let z : suc (u + 3 * suc (length vs)) ≡ suc (suc (suc (suc u)) + 3 * length vs) = omega arith in
           subst (λ p. Going M Ok C Q p (at d ss u)) (sym (r.each (length us) (omega arith)))
-          (go_on S (Committed Y D ws vs) ss (suc (suc (suc u))) (reapply (length us)) (λ x. ret (then (reg (suc (length us))))) (at d ss u)
-          (reapply_safe Y S stable C ss R cover D ws few good committed us w vs d u e a)
+          (go_on S (Committed Y D ws vs) ss (suc (suc (suc u))) (again (length us)) (λ x. ret (then (reg (suc (length us))))) (at d ss u)
+          (redoes us w vs d u e a)
           (λ x d₁ a₁. turns (always_now (Committed Y D ws vs) (λ ls h. committed ls h.0) d₁ (suc (suc (suc u))) a₁) (r.ok (suc (length us)) (omega arith))
           (subst (λ i. GoesSo (reg i) (at d₁ ss (suc (suc (suc u))))) m
-          (reapply_goes committed idle reg fin r (us ++ w ∷ []) vs d₁ (suc (suc (suc u))) (e ∙ sym (append_assoc us (w ∷ []) vs)) a₁
+          (redo_goes again redoes committed idle reg fin r (us ++ w ∷ []) vs d₁ (suc (suc (suc u))) (e ∙ sym (append_assoc us (w ∷ []) vs)) a₁
           (λ d₂ a₂. subst (λ v. Going M Ok C Q fin (at d₂ ss v)) z (k d₂ a₂))))))
+
+      pub reapply_goes : (committed : (ls : List Line) → Marks Y D ws ls → R ls) (idle : (ls : List Line) → Marks Y D [] ls → R ls)
+          (reg : ℕ → M.Reg) (fin : Prog (Next M.Reg)) → Reapplying M Ok (length ws) reg fin
+          → (us vs : List Write) (d : Device) (u : ℕ) → ws ≡ us ++ vs → Is S (Committed Y D ws vs) d
+          → ((d₁ : Device) → Is S (Marks Y D []) d₁ → Going M Ok C Q fin (at d₁ ss (suc (u + 3 * length vs))))
+          → GoesSo (reg (length us)) (at d ss u)
+      reapply_goes committed = redo_goes reapply (reapply_safe Y S stable C ss R cover D ws few good committed) committed
 
       -- 1 and 2
       pub log_goes : (idle : (ls : List Line) → Marks Y D [] ls → R ls) (committed : (ls : List Line) → Marks Y (written D ws) ws ls → R ls)
@@ -153,16 +163,23 @@ module _ (M : Machine) (Ok : M.Reg → Type 0) (C : At → Type 0) (Q : M.Reg �
 
   -- A BATCH over stages, and RECOVERY over stages
   module _ (Y : Layout) (S : List Line → Type 0) (stable : Stable Y S) (ss : List (List ℕ)) (D : ℕ → Line) where
-    pub batch_goes : (ws : List Write) → length ws ≤ Y.most → Good Y ws → ((d : Device) (u : ℕ) → Always (Either Y D ws) d → C (at d ss u))
+    -- whatever a stop may find, the next of the writes is done again
+    abbrev pub RedoesAll : (ℕ → Prog (Unit {0})) → Type 1
+    RedoesAll again =
+        (R : List Line → Type 0) (cover : (d : Device) (u : ℕ) → Always R d → C (at d ss u)) (D : ℕ → Line) (ws : List Write)
+        → length ws ≤ Y.most → Good Y ws → ((ls : List Line) → Marks Y D ws ls → R ls) → Redoes Y S C ss D ws again
+
+    pub batch_goes_by : (again : ℕ → Prog (Unit {0})) → RedoesAll again
+        → (ws : List Write) → length ws ≤ Y.most → Good Y ws → ((d : Device) (u : ℕ) → Always (Either Y D ws) d → C (at d ss u))
         → (cost : ℕ) (make : ℕ → Prog Write) (logging reapplying : ℕ → M.Reg) (fin : Prog (Next M.Reg))
-        → Makes S C Y ss D ws cost make → Logging M Ok (length ws) make logging (reapplying 0) → Reapplying M Ok (length ws) reapplying fin
+        → Makes S C Y ss D ws cost make → Logging M Ok (length ws) make logging (reapplying 0) → Redoing M Ok again (length ws) reapplying fin
         → (d : Device) (u : ℕ) → Holds Y D d → S (seen d)
         → ((d₁ : Device) (v : ℕ) → v ≤ u + (length ws * (cost + 2) + 3 * length ws + 2) → Holds Y (written D ws) d₁ → S (seen d₁) → Going M Ok C Q fin (at d₁ ss v))
         → GoesSo (logging 0) (at d ss u)
     unfolding Logged
-    batch_goes ws few good cover cost make logging reapplying fin made rn rr d u h z k =
+    batch_goes_by again redoes ws few good cover cost make logging reapplying fin made rn rr d u h z k =
         log_goes Y S stable ss (Either Y D ws) cover D ws few good before both cost make logging (reapplying 0) made rn (rr.ok 0 (omega arith)) [] ws d u refl ((λ cs. (h cs, tt)), z)
-        (λ d₁ v le a₁. reapply_goes Y S stable ss (Either Y D ws) cover (written D ws) ws few good both (λ ls m. inr (idle_survives Y (written D ws) ls m)) reapplying fin rr [] ws d₁ v refl a₁
+        (λ d₁ v le a₁. redo_goes Y S stable ss (Either Y D ws) cover (written D ws) ws few good again (redoes (Either Y D ws) cover (written D ws) ws few good both) both (λ ls m. inr (idle_survives Y (written D ws) ls m)) reapplying fin rr [] ws d₁ v refl a₁
         (λ d₂ a₂. k d₂ (suc (v + 3 * length ws)) (omega arith) a₂.0 a₂.1))
       where
         before : (ls : List Line) → Marks Y D [] ls → Either Y D ws ls
@@ -171,18 +188,27 @@ module _ (M : Machine) (Ok : M.Reg → Type 0) (C : At → Type 0) (Q : M.Reg �
         both : (ls : List Line) → Marks Y (written D ws) ws ls → Either Y D ws ls
         both ls m = inr (record { committed = ws; few = few; good = good; marks = m })
 
-    pub recover_goes : ((d : Device) (u : ℕ) → Always (Survives Y D) d → C (at d ss u))
+    pub batch_goes : (ws : List Write) → length ws ≤ Y.most → Good Y ws → ((d : Device) (u : ℕ) → Always (Either Y D ws) d → C (at d ss u))
+        → (cost : ℕ) (make : ℕ → Prog Write) (logging reapplying : ℕ → M.Reg) (fin : Prog (Next M.Reg))
+        → Makes S C Y ss D ws cost make → Logging M Ok (length ws) make logging (reapplying 0) → Reapplying M Ok (length ws) reapplying fin
+        → (d : Device) (u : ℕ) → Holds Y D d → S (seen d)
+        → ((d₁ : Device) (v : ℕ) → v ≤ u + (length ws * (cost + 2) + 3 * length ws + 2) → Holds Y (written D ws) d₁ → S (seen d₁) → Going M Ok C Q fin (at d₁ ss v))
+        → GoesSo (logging 0) (at d ss u)
+    batch_goes = batch_goes_by reapply (reapply_safe Y S stable C ss)
+
+    pub recover_goes_by : (count : Line → ℕ) → ((l : Line) (m : ℕ) → word l ≡ m → m ≤ Y.most → count l ≡ m) → (again : ℕ → Prog (Unit {0})) → RedoesAll again
+        → ((d : Device) (u : ℕ) → Always (Survives Y D) d → C (at d ss u))
         → (look : ℕ → Prog (Next M.Reg)) (reapplying : ℕ → ℕ → M.Reg) (fin : Prog (Next M.Reg))
-        → look 0 ≡ fin → ((m : ℕ) → suc m ≤ Y.most → (look (suc m) ≡ ret (then (reapplying (suc m) 0))) × Reapplying M Ok (suc m) (reapplying (suc m)) fin)
+        → look 0 ≡ fin → ((m : ℕ) → suc m ≤ Y.most → (look (suc m) ≡ ret (then (reapplying (suc m) 0))) × Redoing M Ok again (suc m) (reapplying (suc m)) fin)
         → (d : Device) (u : ℕ) → d.cache ≡ [] → Survives Y D d.lines → S (seen d)
         → ((d₁ : Device) (v : ℕ) → v ≤ u + (3 * Y.most + 2) → Holds Y D d₁ → S (seen d₁) → Going M Ok C Q fin (at d₁ ss v))
-        → Going M Ok C Q (ask (read 0) (λ l. look (word l))) (at d ss u)
-    recover_goes cover look reapplying fin none some d u quiet s z k =
+        → Going M Ok C Q (ask (read 0) (λ l. look (count l))) (at d ss u)
+    recover_goes_by count counts again redoes cover look reapplying fin none some d u quiet s z k =
         let room = Y.room in let inside = Y.inside in
         subst (λ p. Going M Ok C Q p (at d ss u)) refl
-        (asks {k = λ l. look (word l)} (cover d u (λ cs. commits s.committed s.few s.good (stop d cs) (here cs))) tt
-        (subst (λ l. Going M Ok C Q (look (word l)) (at d ss (suc u))) (sym (tidy_is (line_at (seen d) 0) (seen_marks.sound.lined 0 (omega arith))))
-        (subst (λ m. Going M Ok C Q (look m) (at d ss (suc u))) (sym seen_marks.head) (go s.committed s.few s.good here))))
+        (asks {k = λ l. look (count l)} (cover d u (λ cs. commits s.committed s.few s.good (stop d cs) (here cs))) tt
+        (subst (λ l. Going M Ok C Q (look (count l)) (at d ss (suc u))) (sym (tidy_is (line_at (seen d) 0) (seen_marks.sound.lined 0 (omega arith))))
+        (subst (λ m. Going M Ok C Q (look m) (at d ss (suc u))) (sym (counts (line_at (seen d) 0) (length s.committed) seen_marks.head s.few)) (go s.committed s.few s.good here))))
       where
         here : Always (Marks Y D s.committed) d
         here = always_quiet (Marks Y D s.committed) d quiet s.marks
@@ -199,5 +225,13 @@ module _ (M : Machine) (Ok : M.Reg → Type 0) (C : At → Type 0) (Q : M.Reg �
             let r = some (length ws) few in
             subst (λ p. Going M Ok C Q p (at d ss (suc u))) (sym r.0)
             (turns (cover d (suc u) (λ cs. commits (w ∷ ws) few good (stop d cs) (a cs))) (r.1.ok 0 (omega arith))
-            (reapply_goes Y S stable ss (Survives Y D) cover D (w ∷ ws) few good (commits (w ∷ ws) few good) (idle_survives Y D) (reapplying (suc (length ws))) fin r.1 [] (w ∷ ws) d (suc u) refl
+            (redo_goes Y S stable ss (Survives Y D) cover D (w ∷ ws) few good again (redoes (Survives Y D) cover D (w ∷ ws) few good (commits (w ∷ ws) few good)) (commits (w ∷ ws) few good) (idle_survives Y D) (reapplying (suc (length ws))) fin r.1 [] (w ∷ ws) d (suc u) refl
             ((λ cs. (a cs, (a cs).says)), z) (λ d₁ a₁. k d₁ (suc (suc u + 3 * length (w ∷ ws))) (omega arith) a₁.0 a₁.1)))
+
+    pub recover_goes : ((d : Device) (u : ℕ) → Always (Survives Y D) d → C (at d ss u))
+        → (look : ℕ → Prog (Next M.Reg)) (reapplying : ℕ → ℕ → M.Reg) (fin : Prog (Next M.Reg))
+        → look 0 ≡ fin → ((m : ℕ) → suc m ≤ Y.most → (look (suc m) ≡ ret (then (reapplying (suc m) 0))) × Reapplying M Ok (suc m) (reapplying (suc m)) fin)
+        → (d : Device) (u : ℕ) → d.cache ≡ [] → Survives Y D d.lines → S (seen d)
+        → ((d₁ : Device) (v : ℕ) → v ≤ u + (3 * Y.most + 2) → Holds Y D d₁ → S (seen d₁) → Going M Ok C Q fin (at d₁ ss v))
+        → Going M Ok C Q (ask (read 0) (λ l. look (word l))) (at d ss u)
+    recover_goes = recover_goes_by word (λ l m e h. e) reapply (reapply_safe Y S stable C ss)

@@ -1,20 +1,15 @@
 -- Words and their bytes, there and back.
-use Rattle.std.proofs.Common.{◌≡◌, ℕ, zero, suc, ◌+◌, ◌*◌, ◌/◌, ◌%◌, ◌^◌, ◌<◌, ◌≤◌, Bool, true, false, ◌&&◌, eqb, ltb, List, [], ◌∷◌, ◌++◌, length, get_or, take, drop, sym, refl, ap, ◌∙◌, append_assoc, append-nil, add-zero, arith, w8, Fits, ltb-true}
-use mathlib.Core.Bool.{false≢true}
+use Rattle.std.proofs.Common.{◌≡◌, ℕ, zero, suc, ◌+◌, ◌*◌, ◌/◌, ◌%◌, ◌^◌, ◌<◌, ◌≤◌, true, eqb, ltb, List, [], ◌∷◌, ◌++◌, length, get_or, take, drop, sym, refl, ap, ◌∙◌, append_assoc, append-nil, add-zero, arith, ltb-true}
 use borrow.Rule.Slice.PartMut.{put_mid}
-use Rattle.std.proofs.lemmas.Bool.{eq-eqb, ne_eqb, lt-ltb, eqb-true}
+use Rattle.std.proofs.lemmas.Bool.{and_parts, eq-eqb, ne_eqb, eqb-true}
 use Rattle.programs.specs.Machine.{tidy, blank}
 use Rattle.programs.proofs.Fate.{tidy_line}
 use Rattle.std.proofs.lemmas.List.{drop_all, drop-drop, take_more, length-append, length-take-le, length-drop, get_or-drop, get_or-take, take_at, drop_at, take-append-drop}
 use Rattle.plain.specs.Term.{all_bytes, in_bytes, eight}
 use Rattle.plain.specs.Read.{number_after, number}
 use Rattle.plain.specs.Device.{so_many_of}
-use Rattle.plain.proofs.EightBytes.{there, back, number_is, eight_long}
+use Rattle.plain.proofs.EightBytes.{there, back, number_is, eight_long, bytes_take}
 use Rattle.lines.specs.Words.{bytes_of, number_line, word_at, words_in}
-
-both : (a b : Bool) → (a && b) ≡ true → (a ≡ true) × (b ≡ true)
-both true b e = (refl, e)
-both false b e = absurd (false≢true e)
 
 pub first_eight : (w : ℕ) (ws : List ℕ) → take 8 (bytes_of (w ∷ ws)) ≡ eight w
 unfolding bytes_of
@@ -64,17 +59,12 @@ word_is bs i h =
 
 -- a line of the words that its bytes make
 pub all_of : (bs : List ℕ) (i : ℕ) → all_bytes bs ≡ true → all_bytes (take 8 (drop i bs)) ≡ true
-all_of bs i h = every_take 8 (drop i bs) (every_drop i bs h)
+all_of bs i h = bytes_take 8 (drop i bs) (every_drop i bs h)
   where
     every_drop : (i : ℕ) (xs : List ℕ) → all_bytes xs ≡ true → all_bytes (drop i xs) ≡ true
     every_drop zero xs h = h
     every_drop (suc i) [] h = h
-    every_drop (suc i) (x ∷ xs) h = every_drop i xs (both (ltb x 256) (all_bytes xs) h).1
-
-    every_take : (n : ℕ) (xs : List ℕ) → all_bytes xs ≡ true → all_bytes (take n xs) ≡ true
-    every_take zero xs h = refl
-    every_take (suc n) [] h = refl
-    every_take (suc n) (x ∷ xs) h = rw (both (ltb x 256) (all_bytes xs) h).0 (every_take n xs (both (ltb x 256) (all_bytes xs) h).1)
+    every_drop (suc i) (x ∷ xs) h = every_drop i xs (and_parts (ltb x 256) (all_bytes xs) h).1
 
 word_back : (bs : List ℕ) (i : ℕ) → all_bytes bs ≡ true → i + 8 ≤ length bs → eight (word_at bs i) ≡ take 8 (drop i bs)
 unfolding word_at
@@ -119,11 +109,7 @@ blank_words = refl
 
 -- what is taken for a line has the bytes of its words
 pub tidy_back : (l : List ℕ) → bytes_of (words_in (tidy l)) ≡ tidy l
-tidy_back l = let a = both (eqb (length (tidy l)) 64) (all_bytes (tidy l)) (tidy_line l) in bytes_back (tidy l) (eqb-true (length (tidy l)) 64 a.0) a.1
-
-pub typed_bytes : (xs : List ℕ) → ((i : ℕ) → Fits w8 (get_or xs i 0)) → all_bytes xs ≡ true
-typed_bytes [] f = refl
-typed_bytes (x ∷ xs) f = let q = f 0 in let z : x < 256 = omega arith in rw (lt-ltb x 256 z) (typed_bytes xs (λ i. f (suc i)))
+tidy_back l = let a = and_parts (eqb (length (tidy l)) 64) (all_bytes (tidy l)) (tidy_line l) in bytes_back (tidy l) (eqb-true (length (tidy l)) 64 a.0) a.1
 
 -- writing word after word
 pub bytes_more : (ws : List ℕ) (w : ℕ) → bytes_of (ws ++ w ∷ []) ≡ bytes_of ws ++ eight w

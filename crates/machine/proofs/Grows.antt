@@ -1,8 +1,7 @@
 -- The engine is steady: a step keeps the length of memory and its words small, whatever the stages are and whatever is told.
-use Rattle.std.proofs.Common.{◌≡◌, ℕ, zero, suc, ◌+◌, ◌*◌, ◌<◌, ◌≤◌, min, Bool, true, false, ◌&&◌, eqb, ltb, List, [], ◌∷◌, ◌++◌, length, get_or, take, drop, set, sym, refl, ◌∙◌, subst, arith, lit≤}
-use mathlib.Core.Bool.{false≢true}
+use Rattle.std.proofs.Common.{◌≡◌, ℕ, zero, suc, ◌+◌, ◌*◌, ◌<◌, ◌≤◌, min, Bool, true, false, eqb, ltb, List, [], ◌∷◌, ◌++◌, length, get_or, take, drop, set, sym, refl, ◌∙◌, subst, arith, lit≤}
 use Rattle.std.proofs.lemmas.List.{length-take-le, length-drop}
-use Rattle.std.proofs.lemmas.Bool.{lt-ltb, ltb-true, eqb-true}
+use Rattle.std.proofs.lemmas.Bool.{and_parts, lt-ltb, ltb-true, eqb-true}
 use Rattle.plain.specs.Term.{pick, each, every, all_bytes}
 use Rattle.plain.specs.Device.{Line, a_line, so_many_of}
 use Rattle.plain.specs.Read.{number, number_after}
@@ -10,7 +9,7 @@ use Rattle.plain.specs.Run.{Event, on, said, line, next, all_small, Steady, refu
 use Rattle.programs.specs.Prog.{Out, came, wants}
 use Rattle.programs.specs.Machine.{tidy, blank, doing}
 use Rattle.programs.proofs.Fate.{tidy_line, blank_line}
-use Rattle.plain.proofs.EightBytes.{of_eight}
+use Rattle.plain.proofs.EightBytes.{of_eight, head_fits}
 use Rattle.lines.specs.Words.{words_in, word_at}
 use Rattle.lines.proofs.Words.{all_of}
 use Rattle.machine.specs.declared.stages.End.{End}
@@ -20,21 +19,18 @@ use Rattle.machine.specs.Memory.{small, fixed, put_at, directory_in, saved, push
 use Rattle.machine.specs.Model.{Model}
 use Rattle.machine.specs.Engine.{run_in, deed_done, applied, opening, begun, ended, moved, turn, answered, told, stepped, engine_of}
 use Rattle.machine.specs.View.{StaysSmall}
-use Rattle.machine.proofs.Parts.{length_fixed, length_many}
+use Rattle.plain.proofs.Many.{length_many, all_zero}
+use Rattle.machine.proofs.Parts.{length_fixed, words_long}
 use Rattle.machine.proofs.Kept.{put_long, saved_long, pushed_long, heard_long}
 
 unfoldable pub Words : List ℕ → Type 0
 Words [] = Unit {0}
 Words (x ∷ xs) = (x < 18446744073709551616) × Words xs
 
-both : (a b : Bool) → (a && b) ≡ true → (a ≡ true) × (b ≡ true)
-both true b e = (refl, e)
-both false b e = absurd (false≢true e)
-
 words_from : (m : List ℕ) → all_small m ≡ true → Words m
 unfolding Words all_small
 words_from [] e = tt
-words_from (x ∷ xs) e = let p = both (ltb x 18446744073709551616) (every (λ m. ltb m 18446744073709551616) xs) e in (ltb-true _ _ p.0, words_from xs p.1)
+words_from (x ∷ xs) e = let p = and_parts (ltb x 18446744073709551616) (every (λ m. ltb m 18446744073709551616) xs) e in (ltb-true _ _ p.0, words_from xs p.1)
 
 words_to : (m : List ℕ) → Words m → all_small m ≡ true
 unfolding Words all_small
@@ -87,16 +83,13 @@ w_packed zero bs = tt
 w_packed (suc n) bs = (omega arith, w_packed n (drop 8 bs))
 
 -- a number of eight bytes is small
-byte_and : (b : ℕ) (bs : List ℕ) → all_bytes (b ∷ bs) ≡ true → (b < 256) × (all_bytes bs ≡ true)
-byte_and b bs e = let p = both (ltb b 256) (all_bytes bs) e in (ltb-true b 256 p.0, p.1)
-
 number_small : (bs : List ℕ) → length bs ≡ 8 → all_bytes bs ≡ true → number bs < 18446744073709551616
 unfolding number_after
 number_small = of_eight _ (λ a b c d e f g h q.
-    let pa = byte_and a (b ∷ c ∷ d ∷ e ∷ f ∷ g ∷ h ∷ []) q in let pb = byte_and b (c ∷ d ∷ e ∷ f ∷ g ∷ h ∷ []) pa.1 in
-    let pc = byte_and c (d ∷ e ∷ f ∷ g ∷ h ∷ []) pb.1 in let pd = byte_and d (e ∷ f ∷ g ∷ h ∷ []) pc.1 in
-    let pe = byte_and e (f ∷ g ∷ h ∷ []) pd.1 in let pf = byte_and f (g ∷ h ∷ []) pe.1 in
-    let pg = byte_and g (h ∷ []) pf.1 in let ph = byte_and h [] pg.1 in
+    let pa = head_fits a (b ∷ c ∷ d ∷ e ∷ f ∷ g ∷ h ∷ []) q in let pb = head_fits b (c ∷ d ∷ e ∷ f ∷ g ∷ h ∷ []) pa.1 in
+    let pc = head_fits c (d ∷ e ∷ f ∷ g ∷ h ∷ []) pb.1 in let pd = head_fits d (e ∷ f ∷ g ∷ h ∷ []) pc.1 in
+    let pe = head_fits e (f ∷ g ∷ h ∷ []) pd.1 in let pf = head_fits f (g ∷ h ∷ []) pe.1 in
+    let pg = head_fits g (h ∷ []) pf.1 in let ph = head_fits h [] pg.1 in
     omega (arith, pa.0, pb.0, pc.0, pd.0, pe.0, pf.0, pg.0, ph.0))
 
 word_small : (l : Line) (i : ℕ) → i + 8 ≤ length l → all_bytes l ≡ true → word_at l i < 18446744073709551616
@@ -106,7 +99,7 @@ word_small l i h e = number_small (take 8 (drop i l)) (length-take-le 8 (drop i 
 w_line : (l : Line) → a_line l ≡ true → Words (words_in l)
 unfolding Words words_in
 w_line l a =
-    let p = both (eqb (length l) 64) (all_bytes l) a in
+    let p = and_parts (eqb (length l) 64) (all_bytes l) a in
     let n : length l ≡ 64 = eqb-true _ _ p.0 in (
       word_small l 0 (omega arith) p.1,
       (
@@ -139,10 +132,6 @@ good_pushed m ws h e w = (
 good_heard : (m text : List ℕ) → length m ≡ 262144 → Good m (heard m text)
 unfolding heard
 good_heard m text h = (heard_long m text h, λ v. w_put 64 136 m (command_of text) v (w_packed 136 (take 1088 (text ++ so_many_of 1088 0))))
-
-words_long : (l : Line) → length (words_in l) ≡ 8
-unfolding words_in
-words_long l = refl
 
 module _ {D : Type 0} (M : Model D) where
   good_deed : (m n : List ℕ) (d : D) → Good m n → Good m (deed_done M n d)
@@ -191,11 +180,6 @@ module _ {D : Type 0} (M : Model D) where
           (g.0 ∙ sym h, λ s. words_to _ (g.1 (words_from m s)))
       go false q = (refl, λ s. s)
 
-  zeroes : (n : ℕ) → every (λ m. eqb m 0) (so_many_of n 0) ≡ true
-  unfolding so_many_of
-  zeroes zero = refl
-  zeroes (suc n) = zeroes n
-
   pub steady : StaysSmall M
   unfolding StaysSmall Steady engine_of
-  steady = (subst (λ n. n ≤ 262144) (sym (length_many 262144 0)) (lit≤ tt), zeroes 262144, kept)
+  steady = (subst (λ n. n ≤ 262144) (sym (length_many 262144 0)) (lit≤ tt), all_zero 262144, kept)

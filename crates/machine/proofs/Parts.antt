@@ -1,14 +1,15 @@
 -- Parts of a memory, and words that fit.
-use Rattle.std.proofs.Common.{◌≡◌, ℕ, zero, suc, ◌+◌, ◌%◌, ◌≤◌, List, [], ◌∷◌, ◌++◌, length, get_or, take, drop, set, sym, refl, ap, ◌∙◌, subst, ap₂, arith, w64, Fits}
+use Rattle.std.proofs.Common.{◌≡◌, ℕ, suc, ◌+◌, ◌%◌, ◌≤◌, List, [], ◌∷◌, ◌++◌, length, get_or, take, drop, set, sym, refl, ap, ◌∙◌, subst, ap₂, arith, w64, Fits}
 use Rattle.std.proofs.lemmas.List.{length-append, length-take-le, length-drop, take_at, drop_at, get_or-drop}
 use Rattle.plain.specs.Term.{each}
-use Rattle.plain.specs.Device.{so_many_of}
+use Rattle.plain.specs.Device.{Line, so_many_of}
+use Rattle.plain.proofs.Many.{length_many}
+use Rattle.lines.specs.Words.{words_in}
 use Rattle.machine.specs.Memory.{small, fixed, part, put_at, saved}
 
-pub length_many : {A : Type 0} (n : ℕ) (x : A) → length (so_many_of n x) ≡ n
-unfolding so_many_of
-length_many zero x = refl
-length_many (suc n) x = ap suc (length_many n x)
+pub words_long : (l : Line) → length (words_in l) ≡ 8
+unfolding words_in
+words_long l = refl
 
 pub length_each : (xs : List ℕ) → length (each small xs) ≡ length xs
 length_each [] = refl

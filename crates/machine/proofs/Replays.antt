@@ -1,8 +1,7 @@
 -- The engine replays its programs: whatever the stages are, a step does what is next in the program of the stage that memory holds.
-use Rattle.std.proofs.Common.{◌≡◌, ℕ, ◌+◌, ◌-◌, ◌<◌, ◌≤◌, Bool, true, false, ◌&&◌, eqb, ltb, List, [], ◌∷◌, ◌++◌, length, get_or, take, drop, sym, refl, ap, ◌∙◌, subst, ap₂, arith}
-use mathlib.Core.Bool.{false≢true}
+use Rattle.std.proofs.Common.{◌≡◌, ℕ, ◌+◌, ◌-◌, ◌<◌, ◌≤◌, eqb, ltb, List, [], ◌∷◌, ◌++◌, length, get_or, take, drop, sym, refl, ap, ◌∙◌, subst, ap₂, arith}
 use Rattle.std.proofs.lemmas.List.{length_push}
-use Rattle.std.proofs.lemmas.Bool.{eq-eqb, eqb-true}
+use Rattle.std.proofs.lemmas.Bool.{and_parts, eq-eqb, eqb-true}
 use Rattle.plain.specs.Term.{every}
 use Rattle.plain.specs.Device.{Line, so_many_of}
 use Rattle.plain.specs.Run.{Act, read, store, settle, shows, done, refused, Event, on, said}
@@ -19,13 +18,10 @@ use Rattle.machine.specs.Memory.{fixed, command_in, directory_in, saved, pushed,
 use Rattle.machine.specs.Model.{Model}
 use Rattle.machine.specs.Engine.{run_in, deed_done, applied, opening, begun, ended, moved, turn, answered, told, engine_of}
 use Rattle.machine.specs.View.{View, Holds, raw, moved_view, next_if, stage_of, boot_view, told_view, hear_view, machine_of, Ok, Replays}
-use Rattle.machine.proofs.Parts.{length_fixed, length_many}
+use Rattle.machine.proofs.Parts.{length_fixed, words_long}
+use Rattle.machine.proofs.Tells.{length_start}
 use Rattle.machine.proofs.Runs.{drop_many, take_many}
 use Rattle.machine.proofs.Kept.{part_here, part_before, put_long, saved_long, saved_registers, saved_command, saved_directory, saved_count, saved_tape, pushed_long, pushed_registers, pushed_command, pushed_directory, pushed_count, pushed_tape, heard_long, heard_command, heard_directory}
-
-words_long : (l : Line) → length (words_in l) ≡ 8
-unfolding words_in
-words_long l = refl
 
 pushed_holds : (m : List ℕ) (r : View) (t : List Line) (l : Line) → Holds m r t → bytes_of (words_in l) ≡ l → length t < 16359 → Holds (pushed m (words_in l)) r (t ++ l ∷ [])
 pushed_holds m r t l h a b =
@@ -122,12 +118,8 @@ module _ {D : Type 0} (M : Model D) where
 
   answer_back : (x : Act) (s : At) → bytes_of (words_in (answer x s)) ≡ answer x s
   answer_back x s =
-      let a = both (eqb (length (answer x s)) 64) (every (λ b. ltb b 256) (answer x s)) (answer_line x s) in
+      let a = and_parts (eqb (length (answer x s)) 64) (every (λ b. ltb b 256) (answer x s)) (answer_line x s) in
       bytes_back (answer x s) (eqb-true _ _ a.0) a.1
-    where
-      both : (a b : Bool) → (a && b) ≡ true → (a ≡ true) × (b ≡ true)
-      both true b e = (refl, e)
-      both false b e = absurd (false≢true e)
 
   answers : (m : List ℕ) (r : View) (t : List Line) (x : Act) (k : Line → Prog (Next View)) (s : At)
       → Holds m r t → length t < 16359 → feed (stage_of M r) t ≡ ask x k
@@ -150,10 +142,6 @@ module _ {D : Type 0} (M : Model D) where
       seen : told M m (said text) ≡ moved M (heard m text) v
       seen = ap₂ (λ rs ds. moved M (heard m text) (M.hear rs ds text)) h.registers h.directory
 
-  start_long : length (engine_of M).start ≡ 262144
-  unfolding engine_of
-  start_long = length_many 262144 0
-
   zeros_at : (a k : ℕ) → a + k ≤ 262144 → take k (drop a (engine_of M).start) ≡ so_many_of k 0
   unfolding engine_of
   zeros_at a k h = ap (λ xs. take k xs) (drop_many a 262144) ∙ take_many k (262144 - a) (omega arith)
@@ -161,7 +149,7 @@ module _ {D : Type 0} (M : Model D) where
   booted : (n : ℕ) → Holds (saved (engine_of M).start (M.boot n)) (boot_view M n) []
   unfolding command_in directory_in
   booted n =
-      let m : List ℕ = (engine_of M).start in let rs = M.boot n in let l = start_long in
+      let m : List ℕ = (engine_of M).start in let rs = M.boot n in let l = length_start M in
       record {
         size = saved_long m rs l;
         registers = saved_registers m rs l;
@@ -173,7 +161,7 @@ module _ {D : Type 0} (M : Model D) where
 
   wakes : (n : ℕ) → Did K (Ok M) (boot_view M n) [] (ret (then (boot_view M n))) ((engine_of M).step (engine_of M).start (on n))
   wakes n = λ o.
-      subst (λ z. Begun K (Ok M) (boot_view M n) (stage_of M (boot_view M n)) z) (sym (step_is (engine_of M).start (on n) start_long))
+      subst (λ z. Begun K (Ok M) (boot_view M n) (stage_of M (boot_view M n)) z) (sym (step_is (engine_of M).start (on n) (length_start M)))
       (begun_as (saved (engine_of M).start (M.boot n)) (boot_view M n) (booted n) o)
 
   short : (r : View) → Ok M r → Short 16359 (stage_of M r) (λ a. Unit {0})

@@ -13,7 +13,7 @@ use Rattle.machine.specs.Model.{Model}
 use Rattle.machine.specs.Engine.{run_in, applied, begun, moved, answered, told, engine_of}
 use Rattle.machine.specs.Entry.{from_eight, event_of, ActTold, StepTold, StepOf, fits_of, told_end}
 use Rattle.machine.specs.Memory.{saved, pushed}
-use Rattle.machine.proofs.Parts.{length_many}
+use Rattle.plain.proofs.Many.{length_many}
 
 -- events, by their kind
 pub told_on : (k n : ℕ) (bs : List ℕ) → k ≡ 0 → n ≡ from_eight 0 (take 8 bs) → on n ≡ event_of k bs

@@ -1,5 +1,5 @@
-use Rattle.std.proofs.Common.{◌≡◌, ℕ, suc, ◌+◌, ◌*◌, ◌%◌, ◌^◌, ◌<◌, true, ltb, List, [], ◌∷◌, length, get_or, refl, ◌∙◌, arith}
-use Rattle.std.proofs.lemmas.Bool.{lt-ltb}
+use Rattle.std.proofs.Common.{◌≡◌, ℕ, zero, suc, ◌+◌, ◌*◌, ◌%◌, ◌^◌, ◌<◌, true, ltb, List, [], ◌∷◌, length, get_or, take, refl, ◌∙◌, arith, w8, Fits}
+use Rattle.std.proofs.lemmas.Bool.{and_parts, and_from, lt-ltb}
 use Rattle.std.proofs.lemmas.Bool.Decides.{nat_tests}
 use Rattle.std.proofs.lemmas.Nat.{div-mul-add, mod-mul-add}
 use Rattle.plain.specs.Term.{in_bytes, eight, all_bytes}
@@ -34,7 +34,7 @@ top : (a : ℕ) (bs : List ℕ) → a < 256 → in_bytes 1 (0 + a) bs ≡ a ∷ 
 unfolding in_bytes
 top a bs h = let e : (0 + a) % 256 ≡ a = omega arith in rw e
 
-head_fits : (b : ℕ) (bs : List ℕ) → all_bytes (b ∷ bs) ≡ true → (b < 256) × (all_bytes bs ≡ true)
+pub head_fits : (b : ℕ) (bs : List ℕ) → all_bytes (b ∷ bs) ≡ true → (b < 256) × (all_bytes bs ≡ true)
 head_fits b bs q = (grind (arith, nat_tests), grind (arith, nat_tests))
 
 pub back : (bs : List ℕ) → length bs ≡ 8 → all_bytes bs ≡ true → eight (number bs) ≡ bs
@@ -57,3 +57,13 @@ mod_fits n = lt-ltb _ _ (omega arith)
 pub eight_bytes : (n : ℕ) → all_bytes (eight n) ≡ true
 unfolding in_bytes
 eight_bytes n = simp mod_fits
+
+-- a slice of u8 holds bytes
+pub bytes_typed : (bs : List ℕ) → ((i : ℕ) → Fits w8 (get_or bs i 0)) → all_bytes bs ≡ true
+bytes_typed [] h = refl
+bytes_typed (b ∷ bs) h = and_from _ _ (lt-ltb b 256 (h 0).fits) (bytes_typed bs (λ i. h (suc i)))
+
+pub bytes_take : (n : ℕ) (bs : List ℕ) → all_bytes bs ≡ true → all_bytes (take n bs) ≡ true
+bytes_take zero bs h = refl
+bytes_take (suc n) [] h = refl
+bytes_take (suc n) (b ∷ bs) h = let p = and_parts (ltb b 256) (all_bytes bs) h in and_from _ _ p.0 (bytes_take n bs p.1)

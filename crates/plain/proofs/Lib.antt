@@ -11,6 +11,7 @@ pub mod Gaps
 pub mod Moving
 pub mod Example
 pub mod EightBytes
+pub mod Many
 pub mod Parts
 pub mod Reading
 pub mod Stops

@@ -1,10 +1,10 @@
 -- What a step comes to, way by way: the facts that the proof of `step` cites.
-use Rattle.std.proofs.Common.{◌≡◌, ℕ, zero, suc, ◌≤◌, Bool, true, false, ◌≢◌, ◌⊎◌, List, length, take, Some, None, Ok, Err, Option, Result, refl, ap, ◌∙◌, inl, inr, arith, Bor}
+use Rattle.std.proofs.Common.{◌≡◌, ℕ, ◌≤◌, Bool, true, false, ◌≢◌, ◌⊎◌, List, length, take, Some, None, Ok, Err, Option, Result, refl, ap, ◌∙◌, inl, inr, arith, Bor}
 use Rattle.std.proofs.lemmas.Bool.{eq-eqb, ne_eqb, le-leb}
 use Rattle.plain.specs.Term.{pick}
 use Rattle.plain.specs.Commands as plain
 use Rattle.plain.specs.Commands.{core}
-use Rattle.plain.specs.Device.{so_many_of}
+use Rattle.plain.proofs.Many.{length_many}
 use Rattle.plain.specs.Read.{read_command}
 use Rattle.plain.specs.Run.{Event, on, said, line, next}
 use Rattle.formulas.specs.declared.command.Command.{Command}
@@ -19,11 +19,6 @@ use Rattle.sheet.specs.Events.{heard}
 use Rattle.sheet.specs.Own.{answer, refusal_by, refusal_of}
 use Rattle.sheet.specs.Entry.{own, from_eight, event_of, ActTold, StepSays, step_fits}
 use Rattle.sheet.specs.Stores.{StoresLines}
-
-pub length_many : (n x : ℕ) → length (so_many_of n x) ≡ n
-unfolding so_many_of
-length_many zero x = refl
-length_many (suc n) x = ap suc (length_many n x)
 
 pub length_start : length own.start ≡ 262144
 unfolding own

@@ -1,22 +1,16 @@
 -- The main promise for an engine that knows nothing: every command ends at once, refused with what the promise asks for.
-use Rattle.std.proofs.Common.{◌≡◌, ℕ, zero, suc, true, eqb, List, [], ◌∷◌, Some, None, Option, refl, inl, inr, arith}
-use Rattle.plain.specs.Term.{every}
+use Rattle.std.proofs.Common.{◌≡◌, ℕ, zero, suc, List, [], ◌∷◌, Some, None, Option, refl, inl, inr, arith}
 use Rattle.plain.specs.Sheet.{Sheet}
 use Rattle.plain.specs.Commands.{Command}
-use Rattle.plain.specs.Device.{so_many_of}
 use Rattle.plain.specs.Run.{World, Item, power, power_stops, whole, stops, one_act, runs, dark, woken, ran_as, Right, Steady, refusal_end_lem}
 use Rattle.plain.specs.Promise.{May, Whole}
 use Rattle.plain.specs.Read.{read_command}
+use Rattle.plain.proofs.Many.{all_zero}
 use Rattle.plain.proofs.Reading.{said_of, unsaid}
 use Rattle.sheet.specs.Known.{known}
 use Rattle.sheet.specs.Own.{refusal_by, refusal_of}
 use Rattle.sheet.specs.Entry.{own}
 use Rattle.sheet.proofs.Steps.{length_start}
-
-all_zero : (n : ℕ) → every (λ m. eqb m 0) (so_many_of n 0) ≡ true
-unfolding so_many_of
-all_zero zero = refl
-all_zero (suc n) = all_zero n
 
 steady : Steady own
 unfolding Steady own

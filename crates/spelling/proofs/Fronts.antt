@@ -1,25 +1,16 @@
 -- Lists of bytes, and what the readers of plain's specs come to on them: the facts that the code's proofs share.
-use Rattle.std.proofs.Common.{◌≡◌, ℕ, zero, suc, ◌+◌, ◌<◌, ◌≤◌, Bool, true, false, ◌&&◌, ltb, leb, ◌≢◌, List, [], ◌∷◌, ◌++◌, length, get_or, take, drop, Some, None, Option, refl, arith, w8, Fits, MatchOption}
+use Rattle.std.proofs.Common.{◌≡◌, ℕ, zero, suc, ◌+◌, ◌<◌, ◌≤◌, Bool, true, false, ◌&&◌, ltb, leb, ◌≢◌, List, [], ◌∷◌, ◌++◌, length, take, drop, Some, None, Option, refl, arith, MatchOption}
 use Rattle.std.proofs.lemmas.Bool.{and_parts, and_from, and_right, lt-ltb, le-ltb, le-leb, lt-leb, ltb-true}
 use Rattle.plain.specs.Term.{eight, with_length, all_bytes}
 use Rattle.plain.specs.Commands.{on_sheet}
 use Rattle.plain.specs.Read.{Got, got, nothing, only, one, number, read_eight, read_counted, flag, value_tag}
+use Rattle.plain.proofs.EightBytes.{bytes_take}
 use Rattle.plain.proofs.Parts.{given, one_gives, counted_gives}
 
 pub one_none : (bs : List ℕ) → length bs ≡ 0 → one bs ≡ nothing
 unfolding one
 one_none [] h = refl
 one_none (b ∷ bs) h = absurd (omega arith)
-
--- a slice of u8 holds bytes
-pub bytes_typed : (bs : List ℕ) → ((i : ℕ) → Fits w8 (get_or bs i 0)) → all_bytes bs ≡ true
-bytes_typed [] h = refl
-bytes_typed (b ∷ bs) h = and_from _ _ (lt-ltb b 256 (h 0).fits) (bytes_typed bs (λ i. h (suc i)))
-
-bytes_take : (n : ℕ) (bs : List ℕ) → all_bytes bs ≡ true → all_bytes (take n bs) ≡ true
-bytes_take zero bs h = refl
-bytes_take (suc n) [] h = refl
-bytes_take (suc n) (b ∷ bs) h = let p = and_parts (ltb b 256) (all_bytes bs) h in and_from _ _ p.0 (bytes_take n bs p.1)
 
 bytes_append : (a b : List ℕ) → all_bytes (a ++ b) ≡ true → (all_bytes a ≡ true) × (all_bytes b ≡ true)
 bytes_append [] b h = (refl, h)

@@ -1,4 +1,4 @@
-use Rattle.guarded_journal.proofs.Holds.{recovered_so}
+use Rattle.guarded_journal.proofs.Recovery.{recovered_so}
 use Rattle.guarded_journal.proofs.recovery_stands.Goals as goal
 
 pub returns : goal.returns

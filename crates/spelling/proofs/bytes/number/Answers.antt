@@ -1,7 +1,8 @@
 use Rattle.std.proofs.Common.{ap, ◌∙◌}
 use Rattle.plain.specs.Read.{number}
 use Rattle.plain.proofs.EightBytes.{number_is}
-use Rattle.spelling.proofs.Fronts.{eight_none, eight_here, bytes_typed}
+use Rattle.plain.proofs.EightBytes.{bytes_typed}
+use Rattle.spelling.proofs.Fronts.{eight_none, eight_here}
 use Rattle.spelling.proofs.bytes.number.Goals as goal
 
 pub returns-in_default : goal.returns-in_default

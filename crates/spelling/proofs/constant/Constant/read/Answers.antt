@@ -1,6 +1,7 @@
 use Rattle.std.proofs.Common.{arith}
 use Rattle.plain.specs.Read.{only}
-use Rattle.spelling.proofs.Fronts.{bytes_typed, text_fits, no_value}
+use Rattle.plain.proofs.EightBytes.{bytes_typed}
+use Rattle.spelling.proofs.Fronts.{text_fits, no_value}
 use Rattle.spelling.proofs.constant.Constant.read.Goals as goal
 
 pub returns-in_default : goal.returns-in_default

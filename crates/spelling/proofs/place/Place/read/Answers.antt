@@ -1,5 +1,6 @@
 use Rattle.plain.specs.Read.{read_place, only}
-use Rattle.spelling.proofs.Fronts.{on_sheet_in, on_sheet_out, one_fits, bytes_typed}
+use Rattle.plain.proofs.EightBytes.{bytes_typed}
+use Rattle.spelling.proofs.Fronts.{on_sheet_in, on_sheet_out, one_fits}
 use Rattle.spelling.proofs.place.Place.read.Goals as goal
 
 pub returns-in_default : goal.returns-in_default

@@ -1,5 +1,0 @@
-use Rattle.guarded_journal.proofs.Holds.{logical_so}
-use Rattle.guarded_journal.proofs.survival_stands.Goals as goal
-
-pub returns : goal.returns
-returns c = logical_so
