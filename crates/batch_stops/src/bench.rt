@@ -1,7 +1,9 @@
 // A device, and the tape of the stage that runs on it: what the engine does act by act, for one batch or one recovery.
+use crate::tally::Outcome;
 use batches::journaling::{Journal, batch};
 use batches::steps::Write;
 use device::memory::Device;
+use device::store::LINE_BYTES;
 use lines::act::Act;
 use lines::line::Line;
 use lines::tape::Tape;
@@ -16,25 +18,10 @@ const JOURNAL: Journal = Journal {
 
 const FIRST: u64 = 9;
 
-#[derive(Clone, Copy)]
-pub enum Job {
-    Batch,
-    Recovery,
-}
-
-#[derive(Drop)]
+#[derive(Debug, Drop)]
 pub struct Bench {
     device: Device,
     answers: Vec<u64>,
-}
-
-// What the job asks for next, if it has not ended.
-fn next(answers: &[u64], job: Job, writes: &[Write]) -> Result<(), Act> {
-    let mut tape = Tape::new(answers);
-    match job {
-        Job::Batch => batch(&mut tape, &writes[0..writes.len().min(4)]),
-        Job::Recovery => JOURNAL.recover(&mut tape),
-    }
 }
 
 impl Bench {
@@ -46,16 +33,15 @@ impl Bench {
     }
 
     pub fn store(&mut self, k: u64, line: Line) -> Result<(), AllocError> {
-        let mut bytes = [0; 64];
+        let mut bytes = [0; LINE_BYTES];
         line.write_to(&mut bytes);
         self.device.store(k, bytes)
     }
 
     pub fn line(&self, k: u64) -> Line {
-        match self.device.read(k) {
-            Some(bytes) => Line::from_bytes(&bytes),
-            None => Line::BLANK,
-        }
+        self.device
+            .read(k)
+            .map_or(Line::BLANK, |bytes| Line::from(&bytes[..]))
     }
 
     // Carries an act out, and notes what it is answered.
@@ -70,11 +56,17 @@ impl Bench {
         self.answers.extend_from_slice(&answer.words)
     }
 
-    // Runs a job to its end, or for so many acts.
-    pub fn run(&mut self, job: Job, writes: &[Write], most_acts: u32) -> Result<(), AllocError> {
+    // Runs a stage to its end, or for so many acts.
+    fn run<F: Fn(&mut Tape) -> Result<(), Act>>(
+        &mut self,
+        most_acts: u32,
+        stage: F,
+    ) -> Result<(), AllocError>
+        requires { F.IsAlwaysCallable stage }
+    {
         self.answers.clear();
         for _ in 0..most_acts {
-            match next(self.answers.as_slice(), job, writes) {
+            match stage(&mut Tape::new(self.answers.as_slice())) {
                 Ok(()) => return Ok(()),
                 Err(act) => self.carry_out(act)?,
             }
@@ -82,28 +74,41 @@ impl Bench {
         Ok(())
     }
 
+    // As many of the writes as the journal takes.
+    pub fn batch(&mut self, writes: &[Write], most_acts: u32) -> Result<(), AllocError> {
+        let writes = &writes[..writes.len().min(JOURNAL.most_entries as usize)];
+        self.run(most_acts, |tape| batch(tape, writes))
+    }
+
+    pub fn recover(&mut self, most_acts: u32) -> Result<(), AllocError> {
+        self.run(most_acts, |tape| JOURNAL.recover(tape))
+    }
+
     // Power fails: of the stores in the cache those had arrived for which there is a 1.
     pub fn stop(&mut self, arrived: &[u8]) {
         self.device.stop(arrived);
     }
 
-    // Whether each durable line holds what these writes, one after the other, leave in it.
-    pub fn holds(&self, before: &[Write], writes: &[Write]) -> bool {
-        for k in FIRST..JOURNAL.last {
-            if self.line(k).words != left_in(k, before, writes) {
-                return false;
-            }
+    // What has come of the last writes, where the first ones had happened before.
+    pub fn outcome(&self, before: &[Write], writes: &[Write]) -> Outcome {
+        if self.holds(before, &[]) {
+            Outcome::Before
+        } else if self.holds(before, writes) {
+            Outcome::After
+        } else {
+            Outcome::Neither
         }
-        true
+    }
+
+    // Whether each durable line holds what these writes, one after the other, leave in it.
+    fn holds(&self, before: &[Write], writes: &[Write]) -> bool {
+        (FIRST..JOURNAL.last).all(|k| self.line(k) == left_in(k, before, writes))
     }
 }
 
-fn left_in(k: u64, before: &[Write], writes: &[Write]) -> [u64; 8] {
-    let mut words = [0; 8];
-    for w in before.iter().chain(writes.iter()) {
-        if w.to == k {
-            words = w.text.words;
-        }
-    }
-    words
+fn left_in(k: u64, before: &[Write], writes: &[Write]) -> Line {
+    let all = before.iter().chain(writes.iter());
+    all.filter(|w| w.to == k)
+        .last()
+        .map_or(Line::BLANK, |w| w.text)
 }

@@ -6,7 +6,7 @@ mod bench;
 mod tally;
 
 use batches::steps::Write;
-use bench::{Bench, Job};
+use bench::Bench;
 use lines::line::Line;
 use std::alloc::{AllocError, Global};
 use tally::Tally;
@@ -84,50 +84,72 @@ const CHOICES: [[u8; 3]; 8] = [
 // A device with some durable lines, and two stores to derived lines in its cache.
 fn prepared(heap: Global) -> Result<Bench, AllocError> {
     let mut bench = Bench::new(heap)?;
-    bench.run(Job::Batch, &BEFORE, MOST_ACTS)?;
+    bench.batch(&BEFORE, MOST_ACTS)?;
     bench.store(25, Line { words: [61; 8] })?;
     bench.store(26, Line { words: [62; 8] })?;
     Ok(bench)
 }
 
-// Cuts a batch off after so many acts, and then its recovery; then recovers wholly.
-fn cut_off(
+// A batch that is cut off again and again, and what came of it.
+#[derive(Debug, Drop)]
+struct Trial<'a> {
     heap: Global,
-    writes: &[Write],
-    acts: u32,
-    recovery_acts: u32,
-    arrived: &[u8; 3],
-) -> Result<Bench, AllocError> {
-    let mut bench = prepared(heap)?;
-    bench.run(Job::Batch, writes, acts)?;
-    bench.stop(arrived);
-    bench.run(Job::Recovery, writes, recovery_acts)?;
-    bench.stop(arrived);
-    bench.run(Job::Recovery, writes, MOST_ACTS)?;
-    Ok(bench)
+    writes: &'a [Write],
+    tally: Tally,
 }
 
-fn cut_off_everywhere(heap: Global, writes: &[Write]) -> Result<Tally, AllocError> {
-    let mut tally = Tally::new();
-    for stop in 0..MOST_ACTS * MOST_ACTS {
-        for arrived in &CHOICES {
-            let bench = cut_off(heap, writes, stop / MOST_ACTS, stop % MOST_ACTS, arrived)?;
-            tally.note(bench.holds(&BEFORE, &[]), bench.holds(&BEFORE, writes));
-        }
+impl<'a> Trial<'a> {
+    // Cuts the batch off after so many acts, and then its recovery; then recovers wholly.
+    fn cut_off(
+        &self,
+        acts: u32,
+        recovery_acts: u32,
+        arrived: &[u8; 3],
+    ) -> Result<Bench, AllocError> {
+        let mut bench = prepared(self.heap)?;
+        bench.batch(self.writes, acts)?;
+        bench.stop(arrived);
+        bench.recover(recovery_acts)?;
+        bench.stop(arrived);
+        bench.recover(MOST_ACTS)?;
+        Ok(bench)
     }
-    Ok(tally)
+
+    // The same with every choice.
+    fn cut_off_by_choice(&mut self, acts: u32, recovery_acts: u32) -> Result<(), AllocError> {
+        for arrived in &CHOICES {
+            let bench = self.cut_off(acts, recovery_acts, arrived)?;
+            self.tally.note(bench.outcome(&BEFORE, self.writes));
+        }
+        Ok(())
+    }
+
+    // The same with the recovery stopped after every act.
+    fn cut_off_twice(&mut self, acts: u32) -> Result<(), AllocError> {
+        for recovery_acts in 0..MOST_ACTS {
+            self.cut_off_by_choice(acts, recovery_acts)?;
+        }
+        Ok(())
+    }
+
+    // The same with the batch stopped after every act.
+    fn cut_off_everywhere(&mut self) -> Result<(), AllocError> {
+        for acts in 0..MOST_ACTS {
+            self.cut_off_twice(acts)?;
+        }
+        Ok(())
+    }
 }
 
 fn main(rt: HostRuntime) -> anyhow::Result<()> {
     for writes in &BATCHES {
-        let tally = cut_off_everywhere(rt.alloc(), writes)?;
-        println!(rt;
-            "batch of {}, stopped: {} as before, {} as after, {} neither",
-            writes.len(),
-            tally.before,
-            tally.after,
-            tally.neither
-        )?;
+        let mut trial = Trial {
+            heap: rt.alloc(),
+            writes,
+            tally: Tally::default(),
+        };
+        trial.cut_off_everywhere()?;
+        println!(rt; "batch of {}, stopped: {}", writes.len(), trial.tally)?;
     }
     Ok(())
 }

@@ -1,31 +1,38 @@
 // How often a batch had not happened, had happened wholly, or neither.
-ghost use Rattle.std.specs.Prelude.{◌≡◌};
+use std::fmt;
 
-#[derive(Clone, Copy)]
+// What a batch that was cut off left.
+#[derive(Clone, Copy, Debug, PartialEq, Eq)]
+pub enum Outcome {
+    Before,
+    After,
+    Neither,
+}
+
+#[derive(Clone, Copy, Debug, Default, PartialEq, Eq)]
 pub struct Tally {
-    pub before: u32,
-    pub after: u32,
-    pub neither: u32,
+    before: u32,
+    after: u32,
+    neither: u32,
 }
 
 impl Tally {
-    pub fn new() -> Tally
-        ensures { result ≡ record { before = 0; after = 0; neither = 0 } }
-    {
-        Tally {
-            before: 0,
-            after: 0,
-            neither: 0,
-        }
+    pub fn note(&mut self, outcome: Outcome) {
+        let count = match outcome {
+            Outcome::Before => &mut self.before,
+            Outcome::After => &mut self.after,
+            Outcome::Neither => &mut self.neither,
+        };
+        *count = count.saturating_add(1);
     }
+}
 
-    pub fn note(&mut self, is_before: bool, is_after: bool) {
-        if is_before {
-            self.before = self.before.saturating_add(1);
-        } else if is_after {
-            self.after = self.after.saturating_add(1);
-        } else {
-            self.neither = self.neither.saturating_add(1);
-        }
+impl fmt::Display for Tally {
+    fn fmt<W: fmt::Write>(&self, f: &mut fmt::Formatter<W>) -> fmt::Result {
+        write!(
+            f,
+            "{} as before, {} as after, {} neither",
+            self.before, self.after, self.neither
+        )
     }
 }

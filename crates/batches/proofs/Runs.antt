@@ -1,11 +1,12 @@
 -- What the journal's lines are in words, and how its steps and loops are put together from those of the tape.
-use Rattle.std.proofs.Common.{◌≡◌, ℕ, zero, suc, ◌+◌, ◌-◌, ◌*◌, ◌<◌, ◌≤◌, Bool, List, [], ◌∷◌, length, get_or, take, drop, sym, refl, ap, ◌∙◌, subst, arith}
+use Rattle.std.proofs.Common.{◌≡◌, ℕ, zero, suc, ◌+◌, ◌-◌, ◌*◌, ◌<◌, ◌≤◌, Bool, List, ◌∷◌, length, get_or, take, drop, sym, refl, ap, ◌∙◌, subst, arith}
 use Rattle.std.proofs.lemmas.Bool.{le-leb, lt-leb}
 use Rattle.std.proofs.lemmas.List.{drop_more, drop_all}
 use Rattle.plain.specs.Device.{Line}
 use Rattle.plain.specs.Read.{number}
 use Rattle.plain.specs.Run.{Act, read, store, settle}
 use Rattle.plain.specs.Term.{pick}
+use Rattle.plain.proofs.Reaching.{places_length}
 use Rattle.programs.specs.Prog.{Prog, ret, ask, bind, Out, came, wants, replay}
 use Rattle.journal.specs.Journal.{Write, word, word_line}
 use Rattle.journal.specs.Programs.{write, log, log_all, apply, apply_all, commit, clear, batch}
@@ -13,7 +14,7 @@ use Rattle.journal.proofs.Lines.{word_number}
 use Rattle.guarded_journal.specs.Programs.{committed, is_durable_lem, put_back, reapply, reapply_all, recover, recover_so}
 use Rattle.lines.specs.Told.{does}
 use Rattle.lines.specs.Words.{number_line}
-use Rattle.lines.proofs.Tapes.{goes, stops, ends, read_goes, read_stops}
+use Rattle.lines.proofs.Tapes.{goes, stops, ends, ask_goes, ask_stops}
 use Rattle.batches.specs.declared.steps.Write as code
 use Rattle.batches.specs.Writes.{write_of, writes_of}
 
@@ -50,11 +51,11 @@ module _ (i k : ℕ) (w : Write) (l : Line) (t : List Line) (e : k ≡ 1 + 2 * i
 module _ (most : ℕ) (t t' : List Line) (l : Line) (e : replay (ask (read 0) ret) t ≡ came l t') where
   pub committed_none : (n : ℕ) → n ≡ number (take 8 l) → most < n → replay (ask (read 0) (λ p. ret (committed most p))) t ≡ came 0 t'
   committed_none n h b =
-      read_goes 0 (λ p. ret (committed most p)) t t' l (came 0 t') e (ends t' (sym (rw (word_number l, ← h, lt-leb n most b))))
+      ask_goes (read 0) (λ p. ret (committed most p)) t t' l (came 0 t') e (ends t' (sym (rw (word_number l, ← h, lt-leb n most b))))
 
   pub committed_some : (n : ℕ) → n ≡ number (take 8 l) → n ≤ most → replay (ask (read 0) (λ p. ret (committed most p))) t ≡ came n t'
   committed_some n h b =
-      read_goes 0 (λ p. ret (committed most p)) t t' l (came n t') e (ends t' (sym (rw (word_number l, ← h, le-leb n most b))))
+      ask_goes (read 0) (λ p. ret (committed most p)) t t' l (came n t') e (ends t' (sym (rw (word_number l, ← h, le-leb n most b))))
 
 -- an entry is applied by what is logged of it
 module _ (most last i : ℕ) (k : ℕ) (t : List Line) (g : k ≡ 1 + 2 * i) where
@@ -62,19 +63,19 @@ module _ (most last i : ℕ) (k : ℕ) (t : List Line) (g : k ≡ 1 + 2 * i) whe
   then_content l = ask (read (2 + 2 * i)) (λ p. put_back most last (word l) p)
 
   pub reapply_stops : (x : Act) → replay (ask (read k) ret) t ≡ wants x → replay (reapply most last i) t ≡ wants x
-  reapply_stops x e = read_stops (1 + 2 * i) then_content t x (subst (λ j. replay (ask (read j) ret) t ≡ wants x) g e)
+  reapply_stops x e = ask_stops (read (1 + 2 * i)) then_content t x (subst (λ j. replay (ask (read j) ret) t ≡ wants x) g e)
 
   module _ (j : ℕ) (t' : List Line) (l : Line) (h : j ≡ 2 + 2 * i) (e : replay (ask (read k) ret) t ≡ came l t') where
     one_read : (o : Out (Unit {0})) → replay (then_content l) t' ≡ o → replay (reapply most last i) t ≡ o
-    one_read o q = read_goes (1 + 2 * i) then_content t t' l o (subst (λ n. replay (ask (read n) ret) t ≡ came l t') g e) q
+    one_read o q = ask_goes (read (1 + 2 * i)) then_content t t' l o (subst (λ n. replay (ask (read n) ret) t ≡ came l t') g e) q
 
     pub reapply_stops_then : (x : Act) → replay (ask (read j) ret) t' ≡ wants x → replay (reapply most last i) t ≡ wants x
-    reapply_stops_then x f = one_read (wants x) (read_stops (2 + 2 * i) (λ p. put_back most last (word l) p) t' x (subst (λ n. replay (ask (read n) ret) t' ≡ wants x) h f))
+    reapply_stops_then x f = one_read (wants x) (ask_stops (read (2 + 2 * i)) (λ p. put_back most last (word l) p) t' x (subst (λ n. replay (ask (read n) ret) t' ≡ wants x) h f))
 
     pub reapply_goes : (t'' : List Line) (p : Line) (n : ℕ) (b : Bool) (o : Out (Unit {0})) → replay (ask (read j) ret) t' ≡ came p t'' → n ≡ number (take 8 l) → is_durable_lem most last n ≡ b
         → replay (pick b (write n p) (ret tt)) t'' ≡ o → replay (reapply most last i) t ≡ o
     reapply_goes t'' p n b o f m d q =
-        one_read o (read_goes (2 + 2 * i) (λ p. put_back most last (word l) p) t' t'' p o (subst (λ z. replay (ask (read z) ret) t' ≡ came p t'') h f) (rw (word_number l, ← m, d) q))
+        one_read o (ask_goes (read (2 + 2 * i)) (λ p. put_back most last (word l) p) t' t'' p o (subst (λ z. replay (ask (read z) ret) t' ≡ came p t'') h f) (rw (word_number l, ← m, d) q))
 
 -- loops: what is left gives the whole
 each_drop : (ws : List code.Write) (i : ℕ) (d : code.Write) → i < length ws → writes_of (drop i ws) ≡ write_of (get_or ws i d) ∷ writes_of (drop (i + 1) ws)
@@ -130,11 +131,7 @@ redo_done most last m i t o h inv = let z : m - i ≡ 0 = omega arith in sym inv
 -- a whole batch: logged, committed, applied, cleared
 module _ (ws : List code.Write) (t : List Line) where
   long : length (writes_of ws) ≡ length ws
-  long = length_each ws
-    where
-      length_each : (ws : List code.Write) → length (writes_of ws) ≡ length ws
-      length_each [] = refl
-      length_each (w ∷ ws) = ap suc (length_each ws)
+  long = places_length write_of ws
 
   abbrev vs : List Write
   vs = writes_of ws

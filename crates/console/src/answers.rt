@@ -1,32 +1,15 @@
 // How a command is answered: the rows that it showed, in the notation in which they are typed, or why it was refused.
+use host::end::End;
 use host::machine::Ran;
 use printed::{formula_text, value_text};
-use std::io;
 use typed::reading::Answer;
-
-const DONE: u64 = 0;
-
-// Why a command was refused, in words.
-fn refusal(number: u64) -> &'static str {
-    match number {
-        1 => "not a command",
-        2 => "not known yet",
-        3 => "there is no such name",
-        6 => "it would leave the sheet",
-        7 => "there are 256 other names",
-        8 => "no room",
-        _ => "the engine failed",
-    }
-}
 
 // Values of one row of the sheet stand on one line, with a tab between them.
 fn print_values(rt: &HostRuntime, ran: &Ran, wide: u16) -> anyhow::Result<()> {
-    let mut column = 0u16;
-    for row in ran.shown.iter() {
+    let wide = usize::from(wide).max(1);
+    for (before, row) in ran.shown.iter().enumerate() {
         let text = value_text(rt.alloc(), row.as_slice())?;
-        column = column.saturating_add(1);
-        if column >= wide {
-            column = 0;
+        if before % wide == wide - 1 {
             println!(rt; "{text}")?;
         } else {
             print!(rt; "{text}\t")?;
@@ -48,15 +31,10 @@ fn print_formula(rt: &HostRuntime, ran: &Ran) -> anyhow::Result<()> {
 }
 
 pub fn answer(rt: &HostRuntime, ran: &Ran, kind: Answer) -> anyhow::Result<()> {
-    let end = ran.tally.end;
-    if end != DONE {
-        let why = refusal(end);
-        println!(rt; "refused {end}: {why}")?;
-        return Ok(());
-    }
-    match kind {
-        Answer::Done => Ok(()),
-        Answer::Values { wide } => print_values(rt, ran, wide),
-        Answer::Formula => print_formula(rt, ran),
+    match (ran.end, kind) {
+        (End::Done, Answer::Done) => Ok(()),
+        (End::Done, Answer::Values { wide }) => print_values(rt, ran, wide),
+        (End::Done, Answer::Formula) => print_formula(rt, ran),
+        (end, _) => Ok(println!(rt; "{end}")?),
     }
 }

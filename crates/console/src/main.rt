@@ -7,6 +7,7 @@ use answers::answer;
 use host::machine::Machine;
 use std::io;
 use std::io::IsTerminal;
+use std::ops::ControlFlow;
 use typed::reading::{Line, read_line};
 
 // The smallest device that the engine is made for.
@@ -27,15 +28,16 @@ remove rows 3 2      take them out
 copy A1:B2 D5        copy a box to where D5 is its first corner
 help, quit           this text; the end. A line that begins with # is a remark.";
 
-// Reads one line and answers it; false where it is the last.
-fn one_line(rt: &HostRuntime, machine: &mut Machine, text: &str) -> anyhow::Result<bool> {
+// Reads one line and answers it, and breaks off where it is the last.
+fn one_line(
+    rt: &HostRuntime,
+    machine: &mut Machine,
+    text: &str,
+) -> anyhow::Result<ControlFlow<()>> {
     match read_line(rt.alloc(), text.as_bytes()) {
-        Ok(Line::Nothing) => Ok(true),
-        Ok(Line::Help) => {
-            println!(rt; "{HELP}")?;
-            Ok(true)
-        }
-        Ok(Line::Quit) => Ok(false),
+        Ok(Line::Quit) => return Ok(ControlFlow::Break(())),
+        Ok(Line::Nothing) => {}
+        Ok(Line::Help) => println!(rt; "{HELP}")?,
         Ok(
             Line::Command {
                 bytes,
@@ -43,14 +45,11 @@ fn one_line(rt: &HostRuntime, machine: &mut Machine, text: &str) -> anyhow::Resu
             },
         ) => {
             let ran = machine.command(rt.alloc(), bytes.as_slice(), MOST_ACTS)?;
-            answer(rt, &ran, kind)?;
-            Ok(true)
+            answer(rt, &ran, kind)?
         }
-        Err(why) => {
-            println!(rt; "{why}")?;
-            Ok(true)
-        }
+        Err(why) => println!(rt; "{why}")?,
     }
+    Ok(ControlFlow::Continue(()))
 }
 
 fn prompt(rt: &HostRuntime, typing: bool) -> io::Result<()> {
@@ -67,7 +66,7 @@ fn session(rt: &HostRuntime) -> anyhow::Result<()> {
     prompt(rt, typing)?;
     for line in rt.lines(rt.alloc()) {
         let text = line?;
-        if !one_line(rt, &mut machine, text.as_str())? {
+        if one_line(rt, &mut machine, text.as_str())?.is_break() {
             break;
         }
         prompt(rt, typing)?;

@@ -5,22 +5,24 @@ ghost use Rattle.device.specs.Stores.{stores_of};
 ghost use Rattle.plain.specs.Device.{fresh, left, line_at, of_others, read_line, set_line, settled, so_many_of, stopped, storing};
 
 use crate::memory::Device;
-use crate::store::Store;
+use crate::store::{LINE_BYTES, Store};
 use std::alloc::{AllocError, Global};
 
-// What says of a store in the cache that it had arrived when power failed.
+// What says of a store in the cache that it had arrived when power failed. It stays a number: an `&[bool]` would ask more of callers, and the plain
+// model's `stopped` takes numbers.
 const ARRIVED: u8 = 1;
 
-fn zeros(heap: Global, n: usize) -> Result<Vec<[u8; 64]>, AllocError>
+// With `resize`, as `vec!` promises of lines no more than that they are clones.
+fn zeros(heap: Global, n: usize) -> Result<Vec<[u8; LINE_BYTES]>, AllocError>
     ensures { IfOk result (λ v. v.items ≡ so_many_of n (so_many_of 64 0)) }
 {
     let mut all = Vec::new(heap);
-    all.resize(n, [0; 64])?;
+    all.resize(n, [0; LINE_BYTES])?;
     Ok(all)
 }
 
-// Past the last line nothing is put.
-fn put(lines: &mut [[u8; 64]], k: u64, line: [u8; 64])
+// Past the last line nothing is put. By index, as a proof knows no element after a `get_mut`.
+fn put(lines: &mut [[u8; LINE_BYTES]], k: u64, line: [u8; LINE_BYTES])
     ensures { lines.new ≡ set_line lines.old k line }
 {
     let i = k as usize;
@@ -30,39 +32,22 @@ fn put(lines: &mut [[u8; 64]], k: u64, line: [u8; 64])
 }
 
 // Makes a line what it is seen to be.
-fn bring(lines: &mut [[u8; 64]], seen: &[[u8; 64]], k: u64)
+fn bring(lines: &mut [[u8; LINE_BYTES]], seen: &[[u8; LINE_BYTES]], k: u64)
     requires { length lines.old ≡ length seen.now }
     ensures { lines.new ≡ set_line lines.old k (line_at seen.now k) }
 {
-    let i = k as usize;
-    if i < seen.len() {
-        lines[i] = seen[i];
+    if let Some(&line) = seen.get(k as usize) {
+        put(lines, k, line);
     }
-}
-
-// Takes the stores to line k out, and leaves the others in front, in their order: how many these are.
-fn keep_others(cache: &mut [Store], k: u64) -> usize
-    ensures { stores_of (take result cache.new) ≡ of_others k (stores_of cache.old) }
-{
-    let mut kept = 0;
-    for i in 0..cache.len() {
-        let store = cache[i];
-        if store.at != k {
-            cache[kept] = store;
-            kept += 1;
-        }
-    }
-    kept
 }
 
 // Writes back the stores that had arrived, in turn: those for which there is a 1.
-fn write_back(lines: &mut [[u8; 64]], cache: &[Store], arrived: &[u8])
+fn write_back(lines: &mut [[u8; LINE_BYTES]], cache: &[Store], arrived: &[u8])
     ensures { lines.new ≡ left lines.old (stores_of cache.now) arrived.now }
 {
-    let few = cache.len().min(arrived.len());
-    for i in 0..few {
-        if arrived[i] == ARRIVED {
-            put(lines, cache[i].at, cache[i].line);
+    for (store, &there) in cache.iter().zip(arrived) {
+        if there == ARRIVED {
+            put(lines, store.at, store.line);
         }
     }
 }
@@ -72,11 +57,9 @@ impl Device {
     pub fn fresh(heap: Global, lines: usize) -> Result<Device, AllocError>
         ensures { IfOk result (λ d. device_of d ≡ fresh lines) }
     {
-        let there = zeros(heap, lines)?;
-        let seen = zeros(heap, lines)?;
         Ok(Device {
-            lines: there,
-            seen,
+            lines: zeros(heap, lines)?,
+            seen: zeros(heap, lines)?,
             cache: Vec::new(heap),
         })
     }
@@ -88,17 +71,14 @@ impl Device {
     }
 
     // What whoever reads sees; past the last line, nothing.
-    pub fn read(&self, k: u64) -> Option<[u8; 64]>
+    pub fn read(&self, k: u64) -> Option<[u8; LINE_BYTES]>
         ensures { MatchOption result (read_line (device_of self.now) k ≡ []) (λ p. read_line (device_of self.now) k ≡ p) }
     {
-        match self.seen.get(k as usize) {
-            Some(line) => Some(*line),
-            None => None,
-        }
+        self.seen.get(k as usize).copied()
     }
 
     // Without memory nothing is stored.
-    pub fn store(&mut self, k: u64, line: [u8; 64]) -> Result<(), AllocError>
+    pub fn store(&mut self, k: u64, line: [u8; LINE_BYTES]) -> Result<(), AllocError>
         ensures { device_of self.new ≡ (if is_ok result then storing (device_of self.old) k line else device_of self.old) }
     {
         self.cache.push(Store { at: k, line })?;
@@ -111,8 +91,7 @@ impl Device {
         ensures { device_of self.new ≡ settled (device_of self.old) k }
     {
         bring(&mut self.lines, &self.seen, k);
-        let kept = keep_others(&mut self.cache, k);
-        self.cache.truncate(kept);
+        self.cache.retain(|store| store.at != k);
     }
 
     // Power fails: of the stores in the cache, in turn, those had arrived for which there is a 1, and the others are lost.

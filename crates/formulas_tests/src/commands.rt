@@ -8,10 +8,8 @@ use std::test::Fail;
 
 fn only(place: Place) -> Area {
     Area {
-        left: place.col,
-        top: place.row,
-        right: place.col,
-        bottom: place.row,
+        first: place,
+        last: place,
     }
 }
 
@@ -23,20 +21,19 @@ fn told(heap: Global, code: &[u8]) -> Result<String, AllocError> {
         Ok(Command::Show(place)) => ("show", only(place)),
         Ok(Command::Rows(area)) => ("rows", area),
         Ok(Command::Written(place)) => ("written", only(place)),
-        Ok(Command::Other) => return String::from_str(heap, "other"),
         Err(Refusal::Unknown) => return String::from_str(heap, "unknown"),
         Err(Refusal::Malformed) => return String::from_str(heap, "malformed"),
     };
     format!(in heap;
         "{kind} {} {} {} {}",
-        area.left, area.top, area.right, area.bottom
+        area.first.col, area.first.row, area.last.col, area.last.row
     )
 }
 
 fn hold_line(rt: &impl Abort, heap: Global, line: &str) -> Result<(), Fail> {
-    let Some((expected, code)) = line.split_once(':') else {
-        return Err(Fail::new(format_args!("a line without a colon: {line}")));
-    };
+    let (expected, code) = line.split_once(':').ok_or_else(|| Fail::new(format_args!(
+        "a line without a colon: {line}"
+    )))?;
     let code = bytes(heap, code)?;
     let found = told(heap, code.as_slice())?;
     assert_eq!(rt; found.as_str(), expected, "{line}");

@@ -9,9 +9,7 @@ fn add(code: &mut Vec<u8>, word: &str) -> Result<(), Fail> {
     }
     let (byte, many) = word.split_once('*').unwrap_or((word, "1"));
     let byte = byte.parse::<u8>()?;
-    for _ in 0..many.parse::<u16>()? {
-        code.push(byte)?;
-    }
+    code.resize(code.len() + usize::from(many.parse::<u16>()?), byte)?;
     Ok(())
 }
 

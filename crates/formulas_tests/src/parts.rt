@@ -1,7 +1,7 @@
 // The parts that are not told of a command: numbers of eight bytes, references and constants.
 use spelling::bytes::number;
 use spelling::constant::Constant;
-use spelling::place::Reference;
+use spelling::place::{Place, Reference};
 use std::test::Fail;
 
 #[test]
@@ -17,37 +17,28 @@ fn highest_byte_first(rt: HostRuntime) -> Result<(), Fail> {
 
 #[test]
 fn parts_of_references(rt: HostRuntime) -> Result<(), Fail> {
-    let Some((found, rest)) = Reference::read(&[2, 0, 0, 0, 0, 0, 0, 1, 3, 1, 0, 77]) else {
-        return Err(Fail::new("refused"));
+    let (found, rest) = Reference::read(&[2, 0, 0, 0, 0, 0, 0, 1, 3, 1, 0, 77]).ok_or_else(
+        || Fail::new("refused"),
+    )?;
+    let place = Place { col: 2, row: 259 };
+    let expected = Reference {
+        place,
+        fix_col: true,
+        fix_row: false,
     };
-    assert_eq!(rt;
-        (
-            found.col,
-            found.row,
-            found.fix_col,
-            found.fix_row,
-            rest.len(),
-        ),
-        (2, 259, true, false, 1)
-    );
+    assert_eq!(rt; found, expected);
+    assert_eq!(rt; rest.len(), 1);
     Ok(())
 }
 
 #[test]
 fn parts_of_numbers(rt: HostRuntime) -> Result<(), Fail> {
-    let Some(
-        (
-            Constant::Number {
-                below_zero,
-                millionths,
-            },
-            rest,
-        ),
-    ) = Constant::read(&[1, 1, 0, 0, 0, 0, 0, 0, 1, 3, 77])
+    let Some((Constant::Number(found), rest)) = Constant::read(&[1, 1, 0, 0, 0, 0, 0, 0, 1, 3, 77])
     else {
         return Err(Fail::new("refused"));
     };
-    assert_eq!(rt; (below_zero, millionths, rest.len()), (true, 259, 1));
+    assert_eq!(rt; found.sign(), (true, 259));
+    assert_eq!(rt; rest.len(), 1);
     Ok(())
 }
 

@@ -5,10 +5,15 @@ use Rattle.std.proofs.lemmas.Bool.{and_parts, eqb-true}
 use Rattle.plain.specs.Term.{pick}
 use Rattle.plain.specs.Device.{Device, a_line, storing}
 use Rattle.plain.specs.Run.{World, Engine, Event, next, Act, read, store, settle, shows, done, refused, in_memory, on_device, storable, runs, one_act, ran}
-use Rattle.sheet.specs.declared.Told.{Told}
-use Rattle.sheet.specs.Entry.{ActTold, StepSays, event_of, own, step_fits}
+use Rattle.events.specs.declared.event.Event as told
+use Rattle.events.specs.declared.event.Event.TheVariants.{On, Said, Line, Next}
+use Rattle.events.specs.declared.told.Told.{Told}
+use Rattle.events.specs.Events.{kind_of}
+use Rattle.events.specs.Entry.{ActTold, StepOf, event_of}
+use Rattle.events.proofs.Tells.{fits_so}
+use Rattle.sheet.specs.Entry.{StepSays, own, step_fits}
 use Rattle.sheet.specs.Stores.{StoresLines}
-use Rattle.sheet.proofs.Steps.{fits_so, stores_lines}
+use Rattle.sheet.proofs.Steps.{length_start, stores_lines}
 use Rattle.device.proofs.Seen.{lent_back}
 use Rattle.host.specs.Acts.{going, ended, acted, acted_by, carried, carried_out}
 
@@ -67,15 +72,21 @@ unfolding runs acted_by
 runs_carried n e w ev ss r = one_carried n e w ss r (e.step w.memory ev).memory (e.step w.memory ev).act
 
 -- one act of the code: memory and row come back from being lent
-pub acts : (d : Device) (k n l : ℕ) (m₀ m m₁ out₀ out out₁ bs : List ℕ) (r : Told) → k ≤ 3 → n ≡ length m₀ → n ≡ 262144 → l ≡ length out₀ → l ≡ 131072 → m ≡ m₀ → out ≡ out₀ →
+pub acts : (d : Device) (k n l : ℕ) (ev : Event) (m₀ m m₁ out₀ out out₁ bs : List ℕ) (r : Told) → k ≤ 3 → event_of k bs ≡ ev → n ≡ length m₀ → n ≡ 262144 → l ≡ length out₀ → l ≡ 131072 → m ≡ m₀ → out ≡ out₀ →
     length m₁ ≡ length m → length out₁ ≡ length out → StepSays m k bs out (step_fits m k bs out) r m₁ out₁ →
-    acted_by own (record { device = d; memory = m₀ }) (event_of k bs)
+    acted_by own (record { device = d; memory = m₀ }) ev
     ≡ carried_out r (record { device = d; memory = take n (m₁ ++ drop (length m₁) m₀) }) (take l (out₁ ++ drop (length out₁) out₀))
-unfolding acted_by StepSays StoresLines
-acts d k n l m₀ m m₁ out₀ out out₁ bs r k3 n₁ n₂ l₁ l₂ em eo lm lo says =
-    let fit = fits_so m k bs out (ap length em ∙ (sym n₁ ∙ n₂)) k3 (let z : length out ≡ 131072 = ap length eo ∙ (sym l₁ ∙ l₂) in omega arith) in
+unfolding acted_by StepOf StoresLines
+acts d k n l ev m₀ m m₁ out₀ out out₁ bs r k3 ek n₁ n₂ l₁ l₂ em eo lm lo says =
+    let fit = fits_so own length_start m k bs out (ap length em ∙ (sym n₁ ∙ n₂), k3, let z : length out ≡ 131072 = ap length eo ∙ (sym l₁ ∙ l₂) in omega arith) in
     let told = subst (λ b. StepSays m k bs out b r m₁ out₁) fit says in
-    ap (λ x. acted (record { device = d; memory = x }) (own.step x (event_of k bs)).memory (own.step x (event_of k bs)).act) (sym em)
+    ap₂ (λ x v. acted (record { device = d; memory = x }) (own.step x v).memory (own.step x v).act) (sym em) (sym ek)
     ∙ (sym (carries (record { device = d; memory = m }) (own.step m (event_of k bs)).memory (own.step m (event_of k bs)).act r out out₁ (λ i p e. stores_lines m (event_of k bs) i p e) told.1)
     ∙ sym (ap₂ (λ x y. carried_out r (record { device = d; memory = x }) y)
     (lent_back n m₁ m₀ (lm ∙ ap length em) n₁ ∙ told.0) (lent_back l out₁ out₀ (lo ∙ ap length eo) l₁)))
+
+pub few_kinds : (ev : told.Event) → kind_of ev ≤ 3
+few_kinds (On n) = omega arith
+few_kinds (Said bs) = omega arith
+few_kinds (Line bs) = omega arith
+few_kinds Next = omega arith

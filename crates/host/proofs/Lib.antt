@@ -1,3 +1,4 @@
+pub mod Ends
 pub mod Rows
 pub mod Carries
 pub mod Loops

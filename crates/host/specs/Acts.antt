@@ -1,12 +1,16 @@
 -- One act on its own: what plain's run does with it, and what the code's machine does when it is told of it. Assumes nothing: these are definitions.
-use Rattle.std.specs.Prelude.{ℕ, ◌+◌, List, [], ◌∷◌, ◌++◌, length, take, nat_lt}
+use Rattle.std.specs.Prelude.{ℕ, ◌+◌, List, [], ◌∷◌, ◌++◌, length, take, nat_lt, Some, None}
+use Rattle.std.specs.declared.ops.ControlFlow.{ControlFlow}
+use Rattle.std.specs.declared.ops.ControlFlow.TheVariants.{Continue, Break}
 use Rattle.plain.specs.Term.{pick}
 use Rattle.plain.specs.Device.{read_line, storing, settled}
 use Rattle.plain.specs.Run.{World, Engine, Event, line, next, Act, read, store, settle, shows, done, refused, Ran, in_memory, on_device, storable, ran, refusal_end_lem, runs}
-use Rattle.sheet.specs.declared.Told.{Told}
-use Rattle.sheet.specs.declared.Told.TheVariants.{Read, Store, Settle, Shows, Done, No}
-use Rattle.host.specs.declared.machine.After.{After}
-use Rattle.host.specs.declared.machine.After.TheVariants.{Line, NoLine, Stored, Next, Ended}
+use Rattle.events.specs.declared.told.Told.{Told}
+use Rattle.events.specs.declared.told.Told.TheVariants.{Read, Store, Settle, Shows, Done, No}
+use Rattle.host.specs.declared.after.After.{After}
+use Rattle.host.specs.declared.after.After.TheVariants.{Line, Stored, Next}
+use Rattle.host.specs.declared.end.End.{End}
+use Rattle.host.specs.Ends.{end_number}
 
 -- what an act comes to: the command goes on, with the rows that were shown and the lines that were used; or it ends
 pub data Out : Type 0 where
@@ -39,25 +43,19 @@ carried_out (Shows n) w row = going w next (take n row ∷ []) 0
 carried_out Done w row = ended w [] 0
 carried_out (No k) w row = ended w [] (refusal_end_lem k)
 
--- what the code says that an act came to
-abbrev pub out_of : After → World → List (List ℕ) → Out
-out_of (Line p) w ss = going w (line p) ss 1
-out_of NoLine w ss = going w (line []) ss 1
-out_of Stored w ss = going w next ss 1
-out_of Next w ss = going w next ss 0
-out_of (Ended k) w ss = ended w ss k
-
 -- what the engine is told after an act, and how many lines the act used
 abbrev pub told_after : After → Event
-told_after (Line p) = line p
-told_after NoLine = line []
+told_after (Line (Some p)) = line p
+told_after (Line None) = line []
 told_after Stored = next
 told_after Next = next
-told_after (Ended k) = next
 
 abbrev pub lines_of : After → ℕ
 lines_of (Line p) = 1
-lines_of NoLine = 1
 lines_of Stored = 1
 lines_of Next = 0
-lines_of (Ended k) = 0
+
+-- what the code says that an act came to
+abbrev pub out_of : ControlFlow End After → World → List (List ℕ) → Out
+out_of (Continue a) w ss = going w (told_after a) ss (lines_of a)
+out_of (Break e) w ss = ended w ss (end_number e)

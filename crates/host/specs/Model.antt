@@ -7,6 +7,7 @@ use Rattle.plain.specs.Run.{World}
 use Rattle.device.specs.Model.{device_of}
 use Rattle.host.specs.declared.machine.Machine.{Machine}
 use Rattle.host.specs.declared.machine.Ran.{Ran}
+use Rattle.host.specs.Ends.{end_number}
 
 abbrev pub world_of : Machine → World
 world_of m = record { device = device_of m.device; memory = vec_items m.memory }
@@ -20,4 +21,4 @@ rows_of v = each vec_items (vec_items v)
 
 -- how a command went, with what there is afterwards
 abbrev pub ran_of : Ran → World → run.Ran
-ran_of x w = run.ran w (rows_of x.shown) x.tally.lines_used x.tally.end
+ran_of x w = run.ran w (rows_of x.shown) x.lines_used (end_number x.end)

@@ -1,9 +1,11 @@
 -- Lines of eight words, and the bytes that they stand for, the highest of each word first. Assumes nothing: these are definitions.
-use Rattle.std.specs.Prelude.{ℕ, zero, suc, ◌-◌, ◌*◌, ◌/◌, List, [], ◌∷◌, ◌++◌, length, take, drop}
+use Rattle.std.specs.Prelude.{◌≡◌, ℕ, zero, suc, ◌-◌, ◌*◌, ◌/◌, List, [], ◌∷◌, ◌++◌, length, take, drop, map}
+use Rattle.std.specs.Simd.{first_chunks}
 use Rattle.plain.specs.Term.{eight}
 use Rattle.plain.specs.Read.{number}
 use Rattle.plain.specs.Device as device
 use Rattle.plain.specs.Device.{so_many_of}
+use Rattle.programs.specs.Machine.{tidy}
 use Rattle.lines.specs.declared.line.Line.{Line}
 
 unfoldable pub bytes_of : List ℕ → List ℕ
@@ -25,6 +27,15 @@ word_at bs i = number (take 8 (drop i bs))
 -- the words of a line
 unfoldable pub words_in : device.Line → List ℕ
 words_in l = word_at l 0 ∷ word_at l 8 ∷ word_at l 16 ∷ word_at l 24 ∷ word_at l 32 ∷ word_at l 40 ∷ word_at l 48 ∷ word_at l 56 ∷ []
+
+-- so many words, of eight bytes each
+unfoldable pub words_of : ℕ → List ℕ → List ℕ
+words_of n bs = map number (first_chunks 8 n bs)
+
+-- a line's words and bytes are those of 64 bytes; of any others, those of a blank line
+pub record HoldsLine (l : Line) (bytes : List ℕ) : Type 0 where
+  pub words : l.words ≡ words_in (tidy bytes)
+  pub line : line_of l ≡ tidy bytes
 
 -- so many lines of eight words each
 unfoldable pub lines_in : ℕ → List ℕ → List device.Line

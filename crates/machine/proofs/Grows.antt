@@ -1,19 +1,17 @@
 -- The engine is steady: a step keeps the length of memory and its words small, whatever the stages are and whatever is told.
-use Rattle.std.proofs.Common.{◌≡◌, ℕ, zero, suc, ◌+◌, ◌*◌, ◌<◌, ◌≤◌, min, Bool, true, false, eqb, ltb, List, [], ◌∷◌, ◌++◌, length, get_or, take, drop, set, sym, refl, ◌∙◌, subst, arith, lit≤}
-use Rattle.std.proofs.lemmas.List.{length-take-le, length-drop}
+use Rattle.std.proofs.Common.{◌≡◌, All, ℕ, zero, suc, ◌+◌, ◌*◌, ◌<◌, ◌≤◌, min, Bool, true, false, eqb, ltb, List, [], ◌∷◌, ◌++◌, length, get_or, take, drop, set, sym, refl, ◌∙◌, subst, arith, lit≤}
+use Rattle.std.proofs.lemmas.List.Elements.{All-nil, All-cons, All-head, All-tail, All-append, All-take, All-drop, All-set, All-replicate}
 use Rattle.std.proofs.lemmas.Bool.{and_parts, lt-ltb, ltb-true, eqb-true}
 use Rattle.plain.specs.Term.{pick, each, every, all_bytes}
 use Rattle.plain.specs.Device.{Line, a_line, so_many_of}
-use Rattle.plain.specs.Read.{number, number_after}
 use Rattle.plain.specs.Run.{Event, on, said, line, next, all_small, Steady, refused}
 use Rattle.programs.specs.Prog.{Out, came, wants}
 use Rattle.programs.specs.Machine.{tidy, blank, doing}
 use Rattle.programs.proofs.Fate.{tidy_line, blank_line}
-use Rattle.plain.proofs.EightBytes.{of_eight, head_fits}
-use Rattle.lines.specs.Words.{words_in, word_at}
-use Rattle.lines.proofs.Words.{all_of}
-use Rattle.machine.specs.declared.stages.End.{End}
-use Rattle.machine.specs.declared.stages.End.TheVariants.{Go, Over}
+use Rattle.lines.specs.Words.{words_in}
+use Rattle.lines.proofs.Words.{line_words}
+use Rattle.machine.specs.declared.end.End.{End}
+use Rattle.machine.specs.declared.end.End.TheVariants.{Go, Done, Refused}
 use Rattle.machine.specs.declared.stages.Move.{Move}
 use Rattle.machine.specs.Memory.{small, fixed, put_at, directory_in, saved, pushed, heard, packed, command_of}
 use Rattle.machine.specs.Model.{Model}
@@ -21,112 +19,62 @@ use Rattle.machine.specs.Engine.{run_in, deed_done, applied, opening, begun, end
 use Rattle.machine.specs.View.{StaysSmall}
 use Rattle.plain.proofs.Many.{length_many, all_zero}
 use Rattle.machine.proofs.Parts.{length_fixed, words_long}
+use Rattle.machine.proofs.Runs.{many_is, packed_words}
 use Rattle.machine.proofs.Kept.{put_long, saved_long, pushed_long, heard_long}
 
-unfoldable pub Words : List ℕ → Type 0
-Words [] = Unit {0}
-Words (x ∷ xs) = (x < 18446744073709551616) × Words xs
+-- words that fit
+abbrev Fit : ℕ → Type 0
+Fit x = x < 18446744073709551616
+
+abbrev Words : List ℕ → Type 0
+Words m = All Fit m
 
 words_from : (m : List ℕ) → all_small m ≡ true → Words m
-unfolding Words all_small
-words_from [] e = tt
-words_from (x ∷ xs) e = let p = and_parts (ltb x 18446744073709551616) (every (λ m. ltb m 18446744073709551616) xs) e in (ltb-true _ _ p.0, words_from xs p.1)
+unfolding all_small
+words_from [] e = All-nil Fit
+words_from (x ∷ xs) e =
+    let p = and_parts (ltb x 18446744073709551616) (every (λ m. ltb m 18446744073709551616) xs) e in
+    All-cons Fit x xs (ltb-true _ _ p.0) (words_from xs p.1)
 
 words_to : (m : List ℕ) → Words m → all_small m ≡ true
-unfolding Words all_small
+unfolding all_small
 words_to [] w = refl
-words_to (x ∷ xs) w = rw (lt-ltb x 18446744073709551616 w.0) (words_to xs w.1)
-
-w_append : (xs ys : List ℕ) → Words xs → Words ys → Words (xs ++ ys)
-unfolding Words
-w_append [] ys a b = b
-w_append (x ∷ xs) ys a b = (a.0, w_append xs ys a.1 b)
-
-w_take : (n : ℕ) (xs : List ℕ) → Words xs → Words (take n xs)
-unfolding Words
-w_take zero xs w = tt
-w_take (suc n) [] w = tt
-w_take (suc n) (x ∷ xs) w = (w.0, w_take n xs w.1)
-
-w_drop : (n : ℕ) (xs : List ℕ) → Words xs → Words (drop n xs)
-unfolding Words
-w_drop zero xs w = w
-w_drop (suc n) [] w = tt
-w_drop (suc n) (x ∷ xs) w = w_drop n xs w.1
-
-w_set : (xs : List ℕ) (i x : ℕ) → x < 18446744073709551616 → Words xs → Words (set xs i x)
-unfolding Words
-w_set [] i x l w = tt
-w_set (y ∷ ys) zero x l w = (l, w.1)
-w_set (y ∷ ys) (suc i) x l w = (w.0, w_set ys i x l w.1)
+words_to (x ∷ xs) w = rw (lt-ltb x 18446744073709551616 (All-head Fit x xs w)) (words_to xs (All-tail Fit x xs w))
 
 w_each : (xs : List ℕ) → Words (each small xs)
-unfolding Words
-w_each [] = tt
-w_each (x ∷ xs) = (omega arith, w_each xs)
-
-w_zeros : (n : ℕ) → Words (so_many_of n 0)
-unfolding Words so_many_of
-w_zeros zero = tt
-w_zeros (suc n) = (omega arith, w_zeros n)
+w_each [] = All-nil Fit
+w_each (x ∷ xs) = All-cons Fit (small x) (each small xs) (omega arith) (w_each xs)
 
 w_fixed : (n : ℕ) (xs : List ℕ) → Words (fixed n xs)
 unfolding fixed
-w_fixed n xs = w_take n (each small xs ++ so_many_of n 0) (w_append (each small xs) (so_many_of n 0) (w_each xs) (w_zeros n))
+w_fixed n xs = All-take Fit n _ (All-append Fit (each small xs) (so_many_of n 0) (w_each xs) (rw (← (many_is n)) (All-replicate Fit n 0 (omega arith))))
 
 w_put : (a k : ℕ) (xs ys : List ℕ) → Words xs → Words ys → Words (put_at a k xs ys)
-w_put a k xs ys w v = w_append (take a xs) (ys ++ drop k (drop a xs)) (w_take a xs w) (w_append ys (drop k (drop a xs)) v (w_drop k (drop a xs) (w_drop a xs w)))
+w_put a k xs ys w v = All-append Fit _ _ (All-take Fit a xs w) (All-append Fit ys _ v (All-drop Fit k _ (All-drop Fit a xs w)))
 
 w_packed : (n : ℕ) (bs : List ℕ) → Words (packed n bs)
-unfolding Words packed
-w_packed zero bs = tt
-w_packed (suc n) bs = (omega arith, w_packed n (drop 8 bs))
-
--- a number of eight bytes is small
-number_small : (bs : List ℕ) → length bs ≡ 8 → all_bytes bs ≡ true → number bs < 18446744073709551616
-unfolding number_after
-number_small = of_eight _ (λ a b c d e f g h q.
-    let pa = head_fits a (b ∷ c ∷ d ∷ e ∷ f ∷ g ∷ h ∷ []) q in let pb = head_fits b (c ∷ d ∷ e ∷ f ∷ g ∷ h ∷ []) pa.1 in
-    let pc = head_fits c (d ∷ e ∷ f ∷ g ∷ h ∷ []) pb.1 in let pd = head_fits d (e ∷ f ∷ g ∷ h ∷ []) pc.1 in
-    let pe = head_fits e (f ∷ g ∷ h ∷ []) pd.1 in let pf = head_fits f (g ∷ h ∷ []) pe.1 in
-    let pg = head_fits g (h ∷ []) pf.1 in let ph = head_fits h [] pg.1 in
-    omega (arith, pa.0, pb.0, pc.0, pd.0, pe.0, pf.0, pg.0, ph.0))
-
-word_small : (l : Line) (i : ℕ) → i + 8 ≤ length l → all_bytes l ≡ true → word_at l i < 18446744073709551616
-unfolding word_at
-word_small l i h e = number_small (take 8 (drop i l)) (length-take-le 8 (drop i l) (simp length-drop (omega arith))) (all_of l i e)
+unfolding packed
+w_packed zero bs = All-nil Fit
+w_packed (suc n) bs = All-cons Fit _ _ (omega arith) (w_packed n (drop 8 bs))
 
 w_line : (l : Line) → a_line l ≡ true → Words (words_in l)
-unfolding Words words_in
 w_line l a =
     let p = and_parts (eqb (length l) 64) (all_bytes l) a in
-    let n : length l ≡ 64 = eqb-true _ _ p.0 in (
-      word_small l 0 (omega arith) p.1,
-      (
-        word_small l 8 (omega arith) p.1,
-        (
-          word_small l 16 (omega arith) p.1,
-          (
-            word_small l 24 (omega arith) p.1,
-            (word_small l 32 (omega arith) p.1, (word_small l 40 (omega arith) p.1, (word_small l 48 (omega arith) p.1, (word_small l 56 (omega arith) p.1, tt)))),
-          ),
-        ),
-      ),
-    )
+    subst Words (sym (packed_words 8 l (eqb-true _ _ p.0) p.1) ∙ line_words l) (w_packed 8 l)
 
 -- both at once, from a memory of the engine's size
 abbrev Good : List ℕ → List ℕ → Type 0
 Good m n = (length n ≡ 262144) × (Words m → Words n)
 
 good_saved : (m n rs : List ℕ) → Good m n → Good m (saved n rs)
-unfolding saved Words
-good_saved m n rs g = (saved_long n rs g.0, λ v. w_append (0 ∷ fixed 63 rs) (drop 64 n) (omega arith, w_fixed 63 rs) (w_drop 64 n (g.1 v)))
+unfolding saved
+good_saved m n rs g = (saved_long n rs g.0, λ v. All-append Fit (0 ∷ fixed 63 rs) (drop 64 n) (All-cons Fit 0 _ (omega arith) (w_fixed 63 rs)) (All-drop Fit 64 n (g.1 v)))
 
 good_pushed : (m ws : List ℕ) → length m ≡ 262144 → length ws ≡ 8 → Words ws → Good m (pushed m ws)
 unfolding pushed
 good_pushed m ws h e w = (
   pushed_long m ws h e,
-  λ v. w_put (131272 + 8 * min (get_or m 0 0) 16358) 8 (set m 0 (min (get_or m 0 0) 16358 + 1)) ws (w_set m 0 (min (get_or m 0 0) 16358 + 1) (omega arith) v) w,
+  λ v. w_put (131272 + 8 * min (get_or m 0 0) 16358) 8 (set m 0 (min (get_or m 0 0) 16358 + 1)) ws (All-set Fit m 0 (min (get_or m 0 0) 16358 + 1) (omega arith) v) w,
 )
 
 good_heard : (m text : List ℕ) → length m ≡ 262144 → Good m (heard m text)
@@ -152,7 +100,8 @@ module _ {D : Type 0} (M : Model D) where
   good_ended : (m n : List ℕ) (e : End) → Good m n → Good m (ended M n e).memory
   unfolding begun
   good_ended m n Go g = good_opening m n (run_in M n) g
-  good_ended m n (Over k) g = g
+  good_ended m n Done g = g
+  good_ended m n (Refused r) g = g
 
   good_moved : (m n : List ℕ) (v : Move D) → Good m n → Good m (moved M n v).memory
   unfolding moved

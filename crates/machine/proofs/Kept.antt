@@ -1,7 +1,7 @@
 -- What is saved, pushed and heard is there afterwards, and all else is as it was.
 use Rattle.std.proofs.Common.{◌≡◌, ℕ, zero, suc, ◌+◌, ◌-◌, ◌*◌, ◌/◌, ◌<◌, ◌≤◌, min, List, [], ◌∷◌, ◌++◌, length, get_or, take, drop, set, sym, refl, ap, ◌∙◌, arith}
 use Rattle.std.proofs.lemmas.List.{length-append, length-take-le, length-drop, length-set, take-append-le, drop-append-le, take_at, drop_at, drop-drop, drop-take, get_or-take, get_or-set_same, drop-set-lt, take_all}
-use Rattle.std.proofs.lemmas.Slice.{take-put_mid_below, take-put_mid}
+use Rattle.std.proofs.lemmas.Slice.{take-put_mid_below, take-put_mid, drop-put_mid}
 use Rattle.plain.specs.Device.{so_many_of}
 use Rattle.lines.specs.Words.{bytes_of, lines_in, answers}
 use Rattle.machine.specs.Memory.{fixed, part, put_at, registers_in, command_in, directory_in, tape_in, saved, pushed, heard, packed, command_of}
@@ -19,18 +19,8 @@ module _ (m ys : List ℕ) (a k : ℕ) (h : a + k ≤ length m) (l : length ys �
   pub part_here : part a k (put_at a k m ys) ≡ ys
   part_here = ap (λ xs. take k xs) (drop_at (take a m) (ys ++ drop k (drop a m)) a front_long) ∙ take_at ys (drop k (drop a m)) k l
 
-  drop_behind : drop (a + k) (put_at a k m ys) ≡ drop (a + k) m
-  drop_behind =
-      sym (drop-drop k a (put_at a k m ys))
-      ∙ (ap (λ xs. drop k xs) (drop_at (take a m) (ys ++ drop k (drop a m)) a front_long) ∙ (drop_at ys (drop k (drop a m)) k l ∙ drop-drop k a m))
-
   pub part_behind : (b j : ℕ) → a + k ≤ b → part b j (put_at a k m ys) ≡ part b j m
-  part_behind b j q =
-      let n : (a + k) + (b - (a + k)) ≡ b = omega arith in
-      ap (λ xs. take j xs) (cut (put_at a k m ys) n ∙ (ap (λ xs. drop (b - (a + k)) xs) drop_behind ∙ sym (cut m n)))
-    where
-      cut : (xs : List ℕ) → (a + k) + (b - (a + k)) ≡ b → drop b xs ≡ drop (b - (a + k)) (drop (a + k) xs)
-      cut xs n = ap (λ i. drop i xs) (sym n) ∙ sym (drop-drop (b - (a + k)) (a + k) xs)
+  part_behind b j q = ap (λ xs. take j xs) (drop-put_mid a k m ys b q (omega arith) l)
 
   pub put_long : length (put_at a k m ys) ≡ length m
   put_long =

@@ -1,27 +1,31 @@
 -- The engine replays its programs: whatever the stages are, a step does what is next in the program of the stage that memory holds.
-use Rattle.std.proofs.Common.{◌≡◌, ℕ, ◌+◌, ◌-◌, ◌<◌, ◌≤◌, eqb, ltb, List, [], ◌∷◌, ◌++◌, length, get_or, take, drop, sym, refl, ap, ◌∙◌, subst, ap₂, arith}
+use Rattle.std.proofs.Common.{◌≡◌, ℕ, zero, suc, ◌+◌, ◌-◌, ◌<◌, ◌≤◌, eqb, ltb, List, [], ◌∷◌, ◌++◌, length, get_or, take, drop, sym, refl, ap, ◌∙◌, subst, ap₂, arith}
 use Rattle.std.proofs.lemmas.List.{length_push}
-use Rattle.std.proofs.lemmas.Bool.{and_parts, eq-eqb, eqb-true}
+use Rattle.std.proofs.lemmas.Bool.{and_parts, eqb-true}
 use Rattle.plain.specs.Term.{every}
 use Rattle.plain.specs.Device.{Line, so_many_of}
-use Rattle.plain.specs.Run.{Act, read, store, settle, shows, done, refused, Event, on, said}
+use Rattle.plain.specs.Run.{Act, read, store, settle, shows, done, refused, on, said}
 use Rattle.programs.specs.Prog.{Prog, ret, ask, bind, replay, feed, Opens, Short}
-use Rattle.programs.specs.Machine.{Machine, Next, then, At, answer, reply, Begun, Did}
+use Rattle.programs.specs.Machine.{Machine, Next, then, ends, doing, At, answer, reply, Begun, Did}
 use Rattle.programs.proofs.Programs.{feed_next, short_bind}
 use Rattle.programs.proofs.Fate.{answer_line}
 use Rattle.lines.specs.Words.{words_in, bytes_of}
 use Rattle.lines.proofs.Words.{bytes_back}
-use Rattle.machine.specs.declared.stages.End.{End}
-use Rattle.machine.specs.declared.stages.End.TheVariants.{Go, Over}
+use Rattle.machine.specs.declared.end.End.{End}
+use Rattle.machine.specs.declared.end.End.TheVariants.{Go, Done, Refused}
 use Rattle.machine.specs.declared.stages.Move.{Move}
 use Rattle.machine.specs.Memory.{fixed, command_in, directory_in, saved, pushed, heard}
 use Rattle.machine.specs.Model.{Model}
 use Rattle.machine.specs.Engine.{run_in, deed_done, applied, opening, begun, ended, moved, turn, answered, told, engine_of}
 use Rattle.machine.specs.View.{View, Holds, raw, moved_view, next_if, stage_of, boot_view, told_view, hear_view, machine_of, Ok, Replays}
 use Rattle.machine.proofs.Parts.{length_fixed, words_long}
-use Rattle.machine.proofs.Tells.{length_start}
+use Rattle.machine.proofs.Tells.{length_start, step_is}
 use Rattle.machine.proofs.Runs.{drop_many, take_many}
 use Rattle.machine.proofs.Kept.{part_here, part_before, put_long, saved_long, saved_registers, saved_command, saved_directory, saved_count, saved_tape, pushed_long, pushed_registers, pushed_command, pushed_directory, pushed_count, pushed_tape, heard_long, heard_command, heard_directory}
+
+refused_ends : (k : ℕ) → 0 < k → refused k ≡ ends k
+refused_ends zero h = absurd (omega arith)
+refused_ends (suc k) h = refl
 
 pushed_holds : (m : List ℕ) (r : View) (t : List Line) (l : Line) → Holds m r t → bytes_of (words_in l) ≡ l → length t < 16359 → Holds (pushed m (words_in l)) r (t ++ l ∷ [])
 pushed_holds m r t l h a b =
@@ -89,7 +93,8 @@ module _ {D : Type 0} (M : Model D) where
   comes : (a : List ℕ) (q r : View) (u : List Line) (v : Move D) (e : End) → length a ≡ 262144 → command_in a ≡ r.command → directory_in a ≡ r.directory
       → Did K (Ok M) q u (ret (next_if M e (moved_view M r v))) (ended M (applied M a v) e)
   comes a q r u v Go h c d = λ o. begun_as (applied M a v) (moved_view M r v) (applied_holds a r v h c d) o
-  comes a q r u v (Over k) h c d = λ o. (applied M a v, applied_holds a r v h c d, refl)
+  comes a q r u v Done h c d = λ o. (applied M a v, applied_holds a r v h c d, refl)
+  comes a q r u v (Refused k) h c d = λ o. (applied M a v, applied_holds a r v h c d, ap (λ x. doing (applied M a v) x) (refused_ends k.number k.some))
 
   -- a step does what is next in the program
   does : (a : List ℕ) (r : View) (u : List Line) → Holds a r u → (p : Prog (Move D)) (w : List Line)
@@ -102,11 +107,6 @@ module _ {D : Type 0} (M : Model D) where
   answered_as : (a : List ℕ) (r : View) (u : List Line) → Holds a r u → Did K (Ok M) r u (feed (stage_of M r) u) (answered M a)
   unfolding answered
   answered_as a r u h = subst (λ z. Did K (Ok M) r u (feed (stage_of M r) u) (turn M a z)) (sym (runs_as a r u h)) (does a r u h (raw M r) u)
-
-  -- a memory of the engine's size is stepped
-  step_is : (m : List ℕ) (e : Event) → length m ≡ 262144 → (engine_of M).step m e ≡ told M m e
-  unfolding engine_of
-  step_is m e h = rw (eq-eqb (length m) 262144 h)
 
   told_as : (m : List ℕ) (x : Act) (s : At) → told M m (reply x s) ≡ answered M (pushed m (words_in (answer x s)))
   told_as m (read k) s = refl
@@ -126,14 +126,14 @@ module _ {D : Type 0} (M : Model D) where
       → Did K (Ok M) r (t ++ answer x s ∷ []) (k (answer x s)) ((engine_of M).step m (reply x s))
   answers m r t x k s h b f =
       let u = t ++ answer x s ∷ [] in
-      subst (λ z. Did K (Ok M) r u (k (answer x s)) z) (sym (step_is m (reply x s) h.size ∙ told_as m x s))
+      subst (λ z. Did K (Ok M) r u (k (answer x s)) z) (sym (step_is M m (reply x s) h.size ∙ told_as m x s))
       (subst (λ p. Did K (Ok M) r u p (answered M (pushed m (words_in (answer x s))))) (feed_next (stage_of M r) t (answer x s) x k f)
       (answered_as (pushed m (words_in (answer x s))) r u (pushed_holds m r t (answer x s) h (answer_back x s) b)))
 
   says : (m : List ℕ) (r : View) (text : List ℕ) → Holds m r [] → Did K (Ok M) r [] (ret (hear_view M r text)) ((engine_of M).step m (said text))
   unfolding moved
   says m r text h =
-      subst (λ z. Did K (Ok M) r [] (ret (hear_view M r text)) z) (sym (step_is m (said text) h.size ∙ seen))
+      subst (λ z. Did K (Ok M) r [] (ret (hear_view M r text)) z) (sym (step_is M m (said text) h.size ∙ seen))
       (comes (heard m text) r (told_view M r text) [] v v.end (heard_long m text h.size) (heard_command m text h.size) (heard_directory m text h.size ∙ h.directory))
     where
       v : Move D
@@ -161,7 +161,7 @@ module _ {D : Type 0} (M : Model D) where
 
   wakes : (n : ℕ) → Did K (Ok M) (boot_view M n) [] (ret (then (boot_view M n))) ((engine_of M).step (engine_of M).start (on n))
   wakes n = λ o.
-      subst (λ z. Begun K (Ok M) (boot_view M n) (stage_of M (boot_view M n)) z) (sym (step_is (engine_of M).start (on n) (length_start M)))
+      subst (λ z. Begun K (Ok M) (boot_view M n) (stage_of M (boot_view M n)) z) (sym (step_is M (engine_of M).start (on n) (length_start M)))
       (begun_as (saved (engine_of M).start (M.boot n)) (boot_view M n) (booted n) o)
 
   short : (r : View) → Ok M r → Short 16359 (stage_of M r) (λ a. Unit {0})

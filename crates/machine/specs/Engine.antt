@@ -3,12 +3,12 @@
 use Rattle.std.specs.Prelude.{ℕ, List, length, ◌==◌}
 use Rattle.plain.specs.Term.{pick}
 use Rattle.plain.specs.Device.{so_many_of}
-use Rattle.plain.specs.Run.{refused, Event, on, said, line, next, Step, Engine}
+use Rattle.plain.specs.Run.{done, refused, Event, on, said, line, next, Step, Engine}
 use Rattle.programs.specs.Prog.{Out, came, wants, replay}
-use Rattle.programs.specs.Machine.{tidy, blank, ends, doing}
+use Rattle.programs.specs.Machine.{tidy, blank, doing}
 use Rattle.lines.specs.Words.{words_in}
-use Rattle.machine.specs.declared.stages.End.{End}
-use Rattle.machine.specs.declared.stages.End.TheVariants.{Go, Over}
+use Rattle.machine.specs.declared.end.End.{End}
+use Rattle.machine.specs.declared.end.End.TheVariants.{Go, Done, Refused}
 use Rattle.machine.specs.declared.stages.Move.{Move}
 use Rattle.machine.specs.Memory.{fixed, put_at, registers_in, command_in, directory_in, tape_in, saved, pushed, heard}
 use Rattle.machine.specs.Model.{Model}
@@ -34,7 +34,8 @@ module _ {D : Type 0} (M : Model D) where
 
   abbrev pub ended : List ℕ → End → Step
   ended m Go = begun m
-  ended m (Over k) = doing m (ends k)
+  ended m Done = doing m done
+  ended m (Refused r) = doing m (refused r.number)
 
   unfoldable pub moved : List ℕ → Move D → Step
   moved m v = ended (applied m v) v.end

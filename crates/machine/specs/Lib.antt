@@ -1,6 +1,5 @@
 pub mod Memory
 pub mod Model
 pub mod Engine
-pub mod Entry
-pub mod Events
+pub mod Outcome
 pub mod View

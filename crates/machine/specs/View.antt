@@ -5,8 +5,8 @@ use Rattle.plain.specs.Device.{Line, so_many_of}
 use Rattle.plain.specs.Run as run
 use Rattle.programs.specs.Prog.{Prog, ret, bind, Opens, Short}
 use Rattle.programs.specs.Machine.{Machine, Next, then, over, Laws}
-use Rattle.machine.specs.declared.stages.End.{End}
-use Rattle.machine.specs.declared.stages.End.TheVariants.{Go, Over}
+use Rattle.machine.specs.declared.end.End.{End}
+use Rattle.machine.specs.declared.end.End.TheVariants.{Go, Done, Refused}
 use Rattle.machine.specs.declared.stages.Move.{Move}
 use Rattle.machine.specs.Memory.{fixed, registers_in, command_in, directory_in, tape_in, command_of}
 use Rattle.machine.specs.Model.{Model}
@@ -36,7 +36,8 @@ module _ {D : Type 0} (M : Model D) where
 
   abbrev pub next_if : End → View → Next View
   next_if Go r = then r
-  next_if (Over k) r = over r k
+  next_if Done r = over r 0
+  next_if (Refused k) r = over r k.number
 
   abbrev pub stage_of : View → Prog (Next View)
   stage_of r = bind (raw r) (λ v. ret (next_if v.end (moved_view r v)))

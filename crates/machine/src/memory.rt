@@ -1,17 +1,20 @@
-// The engine's memory: how many answers the tape has, the registers, the command, the directory, and the tape. All that is written to it is written here.
-ghost use Rattle.std.specs.Prelude.{◌≡◌, List, length};
+// The engine's memory: how many answers the tape has, the registers, the command, the directory, and the tape.
+// All that is written to it is written here.
+ghost use Rattle.std.specs.Prelude.{◌≡◌, List, ◌+◌, ◌≤◌, length};
 ghost use Rattle.plain.specs.Device.{Line as PlainLine};
 ghost use Rattle.lines.specs.Told.{told};
 ghost use Rattle.machine.specs.Engine.{applied, deed_done, run_in};
-ghost use Rattle.machine.specs.Memory.{heard as heard_in, packed, pushed, saved};
+ghost use Rattle.machine.specs.Memory.{command_in, directory_in, fixed, heard as heard_in, part, pushed, registers_in, saved};
 
-use crate::stages::{Move, Stages};
+use crate::stages::{COMMAND_WORDS, DIRECTORY_WORDS, Move, REGISTER_WORDS, Stages, View};
+use events::sizes::MEMORY_WORDS;
 use lines::act::Act;
-use lines::line::{Line, word_from};
-use lines::row::put;
+use lines::line::{Line, words_from};
 use lines::tape::Tape;
 
-pub const WORDS: usize = 262144;
+// One list of words, with the tape's length in it beside the tape: the fixed interface lends memory so, and compares it word by word.
+// An alias with free functions: each clause would name the field of a struct around the array, and a field that is lent on loses its elements.
+pub type Memory = [u64; MEMORY_WORDS];
 
 const REGISTERS: usize = 1;
 
@@ -25,15 +28,10 @@ const MOST_ANSWERS: u64 = 16359;
 
 const LINE_WORDS: usize = 8;
 
-const WORD_BYTES: usize = 8;
-
-const COMMAND_WORDS: usize = 136;
-
 const COMMAND_BYTES: usize = 1088;
 
 // One answer more. A tape that is full keeps the last in its last place: no stage is that long.
-pub fn push(memory: &mut [u64], line: &Line)
-    requires { length memory.old ≡ 262144 }
+pub fn push(memory: &mut Memory, line: &Line)
     ensures { memory.new ≡ pushed memory.old line.now.words }
 {
     let answers = memory[0].min(MOST_ANSWERS - 1);
@@ -43,61 +41,83 @@ pub fn push(memory: &mut [u64], line: &Line)
 }
 
 // A stage begins: its registers, and no answer yet.
-pub fn save(memory: &mut [u64], registers: &[u64; 63])
-    requires { length memory.old ≡ 262144 }
+pub fn save(memory: &mut Memory, registers: &[u64; REGISTER_WORDS])
     ensures { memory.new ≡ saved memory.old registers.now }
 {
     memory[0] = 0;
     memory[REGISTERS..COMMAND].copy_from_slice(registers);
 }
 
+// So many words from a place on.
+fn words_at<const N: usize>(memory: &[u64], at: usize) -> &[u64; N]
+    requires { at + N ≤ length memory.now }
+    ensures { result.now ≡ part at N memory.now }
+{
+    memory[at..].first_chunk().unwrap()
+}
+
+#[tactic(auto, unfolding(crate::specs::Memory::registers_in))]
+pub fn registers(memory: &Memory) -> &[u64; REGISTER_WORDS]
+    ensures { result.now ≡ registers_in memory.now }
+{
+    words_at(memory, REGISTERS)
+}
+
+#[tactic(auto, unfolding(crate::specs::Memory::directory_in))]
+pub fn directory(memory: &Memory) -> &[u64; DIRECTORY_WORDS]
+    ensures { result.now ≡ directory_in memory.now }
+{
+    words_at(memory, DIRECTORY)
+}
+
+#[tactic(auto, unfolding(crate::specs::Memory::command_in))]
+fn command(memory: &Memory) -> &[u64; COMMAND_WORDS]
+    ensures { result.now ≡ command_in memory.now }
+{
+    words_at(memory, COMMAND)
+}
+
 // The stage that memory is in, against the answers that it holds.
-pub fn run<S: Stages>(memory: &[u64]) -> Result<Move<S::Deed>, Act>
-    requires { length memory.now ≡ 262144 }
+pub fn run<S: Stages>(memory: &Memory) -> Result<Move<S::Deed>, Act>
     ensures { (t : List PlainLine) × (run_in S.Stages.model memory.now ≡ told result t) }
 {
     let answers = memory[0].min(MOST_ANSWERS) as usize;
     let mut tape = Tape::new(&memory[TAPE..TAPE + LINE_WORDS * answers]);
-    S::stage(
-        &memory[REGISTERS..COMMAND],
-        &memory[COMMAND..DIRECTORY],
-        &memory[DIRECTORY..TAPE],
-        &mut tape,
-    )
+    let view = View {
+        registers: registers(memory),
+        command: command(memory),
+        directory: directory(memory),
+    };
+    S::stage(view, &mut tape)
 }
 
-pub fn apply<S: Stages>(memory: &mut [u64], made: Move<S::Deed>)
-    requires { length memory.old ≡ 262144 }
+pub fn apply<S: Stages>(memory: &mut Memory, made: Move<S::Deed>)
     ensures { memory.new ≡ applied S.Stages.model memory.old made }
 {
     change::<S>(memory, made.deed);
     save(memory, &made.registers);
 }
 
-fn change<S: Stages>(memory: &mut [u64], deed: S::Deed)
-    requires { length memory.old ≡ 262144 }
+fn change<S: Stages>(memory: &mut Memory, deed: S::Deed)
     ensures { memory.new ≡ deed_done S.Stages.model memory.old deed }
 {
-    S::apply(deed, &mut memory[DIRECTORY..TAPE]);
+    change_directory::<S>(&mut memory[DIRECTORY..TAPE], deed);
 }
 
-// Puts bytes into words, eight to each, the highest first.
-fn pack(bytes: &[u8; 1088], words: &mut [u64])
-    requires { length words.old ≡ 136 }
-    ensures { words.new ≡ packed 136 bytes.now }
+// The directory is handed on as a slice: made an array in place, inside `change`, the proof of what memory ends as did not close.
+fn change_directory<S: Stages>(directory: &mut [u64], deed: S::Deed)
+    requires { length directory.old ≡ 131072 }
+    ensures { directory.new ≡ fixed 131072 (S.Stages.model.apply deed directory.old) }
 {
-    for i in 0..COMMAND_WORDS {
-        words[i] = word_from(bytes, WORD_BYTES * i);
-    }
+    S::apply(deed, directory.as_mut_array().unwrap());
 }
 
 // The command's words: its bytes, as many as there is room for, filled up with 0.
-pub fn hear(memory: &mut [u64], text: &[u8])
-    requires { length memory.old ≡ 262144 }
+pub fn hear(memory: &mut Memory, text: &[u8])
     ensures { memory.new ≡ heard_in memory.old text.now }
 {
     let few = text.len().min(COMMAND_BYTES);
-    let mut bytes = [0; 1088];
-    put(&mut bytes, &text[0..few]);
-    pack(&bytes, &mut memory[COMMAND..DIRECTORY]);
+    let mut bytes = [0; COMMAND_BYTES];
+    bytes[..few].copy_from_slice(&text[..few]);
+    memory[COMMAND..DIRECTORY].copy_from_slice(&words_from::<COMMAND_WORDS>(&bytes));
 }

@@ -1,40 +1,41 @@
-// What a step is answered with, and how an act is told: its bytes go into the lent row.
-ghost use Rattle.std.specs.Prelude.{◌≡◌, ◌≤◌, length};
-ghost use Rattle.lines.specs.Told.{act_of};
-ghost use Rattle.machine.specs.Entry.{ActTold, told_end};
+// What a step comes to, and how it is told: the bytes of an act go into the lent row.
+ghost use Rattle.std.specs.Prelude.{◌≤◌, length};
+ghost use Rattle.events.specs.Entry.{ActTold};
+ghost use Rattle.machine.specs.Outcome.{act_in};
 
+use crate::end::Refusal;
+use events::told::Told;
 use lines::act::Act;
 
-// What the engine does next, or how the command ended. Where there are bytes, they stand in the lent row.
-#[derive(Clone, Copy)]
-pub enum Told {
-    Read(u64),
-    Store(u64),
-    // A line.
-    Settle(u64),
-    // A row of so many bytes.
-    Shows(u64),
+// The act that the engine does next, or how the command ended.
+#[derive(Clone, Copy, Debug, PartialEq, Eq)]
+pub(crate) enum Outcome {
+    Act(Act),
     Done,
-    No(u64),
+    // A stage began that has no act.
+    Fault,
+    Refused(Refusal),
 }
 
-pub(crate) fn tell(act: Act, out: &mut [u8]) -> Told
-    requires { 131072 ≤ length out.old }
-    ensures { ActTold (act_of act) result out.old out.new }
-{
-    match act {
-        Act::Read(k) => Told::Read(k),
-        Act::Store(k, line) => {
-            line.write_to(out);
-            Told::Store(k)
+impl Outcome {
+    #[tactic(auto, unfolding(events::specs::Entry::ActTold), using(lines::proofs::Words::length_bytes))]
+    pub(crate) fn tell(self, out: &mut [u8]) -> Told
+        requires { 1040 ≤ length out.old }
+        ensures { ActTold (act_in self) result out.old out.new }
+    {
+        match self {
+            Outcome::Act(act) => match act {
+                Act::Read(k) => Told::Read(k),
+                Act::Store(k, line) => {
+                    line.write_to(out);
+                    Told::Store(k)
+                }
+                Act::Settle(k) => Told::Settle(k),
+                Act::Show(row) => Told::Shows(row.write_to(out)),
+            },
+            Outcome::Done => Told::Done,
+            Outcome::Fault => Told::No(0),
+            Outcome::Refused(refusal) => Told::No(refusal.number),
         }
-        Act::Settle(k) => Told::Settle(k),
-        Act::Show(row) => Told::Shows(row.write_to(out)),
     }
-}
-
-pub(crate) fn tell_end(k: u64) -> Told
-    ensures { result ≡ told_end k }
-{
-    if k == 0 { Told::Done } else { Told::No(k) }
 }

@@ -1,45 +1,45 @@
 // Commands with a few bytes changed.
-use crate::buffer::Buffer;
-use crate::dice::Dice;
-use crate::making::command;
+use crate::making::Maker;
+use std::alloc::AllocError;
+use std::mem;
 
-fn tail<'a>(bytes: &'a [u8], dice: &mut Dice) -> &'a [u8] {
-    &bytes[dice.below(bytes.len() as u64 + 1) as usize..]
-}
-
-// The bytes with a change somewhere: cut, spliced with the tail of another command, or with a byte more, less or otherwise.
-fn changed(bytes: &[u8], other: &[u8], dice: &mut Dice) -> Buffer {
-    let mut code = Buffer::new();
-    let back = tail(bytes, dice);
-    code.append(&bytes[0..bytes.len().saturating_sub(back.len())]);
-    let Some((first, rest)) = back.split_first() else {
-        return code;
-    };
-    match dice.below(8) {
-        0 => {}
-        1 => code.append(tail(other, dice)),
-        2 => {
-            code.push(dice.byte());
-            code.append(back);
-        }
-        3 => code.append(rest),
-        4 => {
-            code.push(dice.byte());
-            code.append(rest);
-        }
-        _ => {
-            code.push(*first ^ 1 << dice.below(8));
-            code.append(rest);
-        }
+impl Maker {
+    // A tail of the command before, perhaps of no bytes or all.
+    fn splice(&mut self) -> Result<(), AllocError> {
+        let from = self.dice.below(self.last.len() as u64 + 1) as usize;
+        self.code.extend_from_slice(&self.last[from..])
     }
-    code
-}
 
-// A command with at most two changes, and half of them with none.
-pub fn mutant(other: &[u8], dice: &mut Dice) -> Buffer {
-    let mut code = command(dice);
-    for _ in 0..dice.below(4).saturating_sub(1) {
-        code = changed(code.as_slice(), other, dice);
+    // Changes something somewhere: the bytes are cut, spliced with the tail of another command, or have a byte more, less or otherwise.
+    fn change(&mut self) -> Result<(), AllocError> {
+        let at = self.dice.below(self.code.len() as u64 + 1) as usize;
+        if at == self.code.len() {
+            return Ok(());
+        }
+        match self.dice.below(8) {
+            0 => self.code.truncate(at),
+            1 => {
+                self.code.truncate(at);
+                self.splice()?;
+            }
+            2 => self.code.insert(at, self.dice.byte())?,
+            3 => {
+                let _ = self.code.remove(at);
+            }
+            4 => self.code[at] = self.dice.byte(),
+            _ => self.code[at] ^= 1 << self.dice.below(8),
+        }
+        Ok(())
     }
-    code
+
+    // A command with at most two changes, and half of them with none.
+    pub fn mutant(&mut self) -> Result<&[u8], AllocError> {
+        mem::swap(&mut self.code, &mut self.last);
+        self.code.clear();
+        self.command()?;
+        for _ in 0..self.dice.below(4).saturating_sub(1) {
+            self.change()?;
+        }
+        Ok(self.code.as_slice())
+    }
 }

@@ -5,7 +5,7 @@ const FACTOR: u64 = 6364136223846793005;
 
 const STEP: u64 = 1442695040888963407;
 
-#[derive(Drop)]
+#[derive(Debug, Drop)]
 pub struct Dice {
     state: u64,
 }
@@ -32,8 +32,8 @@ impl Dice {
         self.below(256) as u8
     }
 
-    pub fn flag(&mut self) -> u8 {
-        self.below(2) as u8
+    pub fn flag(&mut self) -> bool {
+        self.below(2) == 1
     }
 
     // A small number mostly, and at times one at an edge: the last that fits, the one before, or the one behind.

@@ -1,26 +1,24 @@
 // Makes many commands by chance, changes some of their bytes, and has each read by the proved reader and by another one.
 #![tactic(auto)]
 
-mod buffer;
 mod changing;
+mod codes;
 mod dice;
 mod making;
-mod numbers;
 mod positions;
 
-use buffer::Buffer;
-use changing::mutant;
-use dice::Dice;
+use codes::*;
 use formulas::command::{Command, Refusal, read_command};
-use numbers::*;
-use positions::{Verdict, byte, eight, judge};
-use std::io;
+use making::Maker;
+use positions::{At, Verdict, judge};
+use std::alloc::{AllocError, Global};
+use std::{fmt, io};
 
 const COMMANDS: u64 = 10000;
 
 const SEED: u64 = 2024;
 
-#[derive(Clone, Copy)]
+#[derive(Clone, Copy, Debug, Default, PartialEq, Eq)]
 struct Tally {
     core: u64,
     other: u64,
@@ -39,68 +37,56 @@ impl Tally {
     }
 }
 
-fn kind(command: Command) -> u8 {
-    match command {
-        Command::Set(_) => SET,
-        Command::Wipe(_) => WIPE,
-        Command::Show(_) => SHOW,
-        Command::Rows(_) => ROWS,
-        Command::Written(_) => WRITTEN,
-        Command::Other => 0,
+impl fmt::Display for Tally {
+    fn fmt<W: fmt::Write>(&self, f: &mut fmt::Formatter<W>) -> fmt::Result {
+        let Tally {
+            core,
+            other,
+            malformed,
+            differences,
+        } = *self;
+        write!(
+            f,
+            "{core} of the core, {other} not of the core, {malformed} malformed\ntold otherwise by another reader: {differences}"
+        )
     }
 }
 
-fn has_place(bytes: &[u8], at: usize, col: u8, row: u16) -> bool {
-    byte(bytes, at) == Some(col) && eight(bytes, at.wrapping_add(1)) == Some(u64::from(row))
-}
-
-fn has_parts(bytes: &[u8], command: Command) -> bool {
-    match command {
-        Command::Set(place) | Command::Show(place) | Command::Written(place) => has_place(
-            bytes, 1, place.col, place.row,
-        ),
-        Command::Wipe(area) | Command::Rows(area) => has_place(bytes, 1, area.left, area.top)
-            && has_place(bytes, 10, area.right, area.bottom),
-        Command::Other => false,
+// Whether that command and its parts stand in the bytes.
+fn stands(command: Command, start: At) -> bool {
+    let parts = start.after(1);
+    match (start.byte(), command) {
+        (Some(SET), Command::Set(place))
+        | (Some(SHOW), Command::Show(place))
+        | (Some(WRITTEN), Command::Written(place)) => parts.place() == Some(place),
+        (Some(WIPE), Command::Wipe(area)) | (Some(ROWS), Command::Rows(area)) => {
+            parts.area() == Some(area)
+        }
+        _ => false,
     }
 }
 
 // Whether the proved reader tells what the other one does, and which command and parts stand there.
 fn agrees(bytes: &[u8], verdict: Verdict) -> bool {
     match read_command(bytes) {
-        Ok(command) => verdict == Verdict::Core
-            && byte(bytes, 0) == Some(kind(command))
-            && has_parts(bytes, command),
+        Ok(command) => verdict == Verdict::Core && stands(command, At::start(bytes)),
         Err(Refusal::Unknown) => verdict == Verdict::Other,
         Err(Refusal::Malformed) => verdict == Verdict::Malformed,
     }
 }
 
-fn run() -> Tally {
-    let mut dice = Dice::new(SEED);
-    let mut tally = Tally {
-        core: 0,
-        other: 0,
-        malformed: 0,
-        differences: 0,
-    };
-    let mut code = Buffer::new();
+fn run(heap: Global) -> Result<Tally, AllocError> {
+    let mut maker = Maker::new(heap, SEED);
+    let mut tally = Tally::default();
     for _ in 0..COMMANDS {
-        code = mutant(code.as_slice(), &mut dice);
-        let verdict = judge(code.as_slice());
-        tally.add(verdict, agrees(code.as_slice(), verdict));
+        let code = maker.mutant()?;
+        let verdict = judge(heap, code)?;
+        tally.add(verdict, agrees(code, verdict));
     }
-    tally
+    Ok(tally)
 }
 
 fn main(rt: HostRuntime) -> io::Result<()> {
-    let Tally {
-        core,
-        other,
-        malformed,
-        differences,
-    } = run();
-    println!(rt;
-        "{COMMANDS} commands: {core} of the core, {other} not of the core, {malformed} malformed\ntold otherwise by another reader: {differences}"
-    )
+    let tally = run(rt.alloc())?;
+    println!(rt; "{COMMANDS} commands: {tally}")
 }

@@ -1,7 +1,7 @@
 // Commands of every kind, most of them well formed, with their numbers at the edges of what fits now and then.
-use crate::buffer::Buffer;
+use crate::codes::*;
 use crate::dice::Dice;
-use crate::numbers::*;
+use std::alloc::{AllocError, Global};
 
 // One less than the sides of a box of as many places as may be shown.
 const WIDE: u8 = 15;
@@ -14,180 +14,234 @@ const MINUSES: u64 = 28;
 // Four texts make a formula of about as many bytes as it may have: three of the longest, and one of at least so many bytes.
 const FOURTH: u64 = 214;
 
-fn place(code: &mut Buffer, dice: &mut Dice) {
-    code.push(dice.byte());
-    code.number(dice.near(LAST_ROW));
+// What makes commands, one after the other.
+#[derive(Debug, Drop)]
+pub struct Maker {
+    pub(super) dice: Dice,
+    // The command that is being made, and the one before it.
+    pub(super) code: Vec<u8>,
+    pub(super) last: Vec<u8>,
 }
 
-fn reference(code: &mut Buffer, dice: &mut Dice) {
-    place(code, dice);
-    code.push(dice.flag());
-    code.push(dice.flag());
-}
-
-fn cell(code: &mut Buffer, dice: &mut Dice) {
-    code.push(CELL);
-    reference(code, dice);
-}
-
-fn cells(code: &mut Buffer, dice: &mut Dice) {
-    code.push(CELLS);
-    reference(code, dice);
-    reference(code, dice);
-}
-
-// A box; its corners are the wrong way round if its columns go past the last one.
-fn area(code: &mut Buffer, dice: &mut Dice) {
-    let left = dice.byte();
-    let top = dice.near(LAST_ROW);
-    code.push(left);
-    code.number(top);
-    code.push(left.wrapping_add(if dice.flag() == 0 { WIDE } else { dice.byte() }));
-    code.number(top + HIGH - 1 + dice.below(3));
-}
-
-fn text(code: &mut Buffer, long: u64, dice: &mut Dice) {
-    code.number(long);
-    for _ in 0..long {
-        code.push(b'a' + dice.below(26) as u8);
-    }
-}
-
-fn name(code: &mut Buffer, dice: &mut Dice) {
-    text(code, 1 + dice.near(LONGEST_NAME - 1), dice);
-}
-
-fn constant(code: &mut Buffer, dice: &mut Dice) {
-    match dice.below(3) {
-        0 => {
-            code.append(&[CONSTANT, NUMBER, dice.flag()]);
-            code.number(dice.near(LARGEST));
-        }
-        1 => {
-            code.append(&[CONSTANT, TEXT]);
-            text(code, dice.near(LONGEST_TEXT), dice);
-        }
-        _ => code.append(&[CONSTANT, TRUTH, dice.flag()]),
-    }
-}
-
-// A formula with no other in it: mostly one of the core.
-fn leaf(code: &mut Buffer, dice: &mut Dice) {
-    match dice.below(16) {
-        0 => cells(code, dice),
-        1 => {
-            code.push(NAMED);
-            name(code, dice);
-        }
-        2 => code.push(GONE),
-        3..=8 => cell(code, dice),
-        _ => constant(code, dice),
-    }
-}
-
-// The front of a formula with others in it: how many.
-fn inner(code: &mut Buffer, dice: &mut Dice) -> u64 {
-    match dice.below(4) {
-        0 => {
-            code.push(OPPOSITE);
-            1
-        }
-        1 => {
-            let which = if dice.flag() == 0 {
-                IF
-            } else {
-                dice.near(LAST_FUNCTION as u64) as u8
-            };
-            let many = dice.near(MOST_VALUES as u64);
-            code.append(&[FUNCTION, which, many as u8]);
-            many
-        }
-        _ => {
-            code.append(&[OPERATOR, dice.near(LAST_OPERATOR as u64) as u8]);
-            2
+impl Maker {
+    pub fn new(heap: Global, seed: u64) -> Maker {
+        Maker {
+            dice: Dice::new(seed),
+            code: Vec::new(heap),
+            last: Vec::new(heap),
         }
     }
-}
 
-// Fronts of formulas in one another: how many formulas are still to follow.
-fn inners(code: &mut Buffer, dice: &mut Dice) -> u64 {
-    let mut awaited = 1u64;
-    for _ in 0..dice.below(INNER) {
-        if awaited > 0 {
-            awaited = awaited.wrapping_sub(1).wrapping_add(inner(code, dice));
+    // Eight bytes, the highest first.
+    fn number(&mut self, n: u64) -> Result<(), AllocError> {
+        self.code.extend_from_slice(&n.to_be_bytes())
+    }
+
+    fn place(&mut self) -> Result<(), AllocError> {
+        self.code.push(self.dice.byte())?;
+        let row = self.dice.near(LAST_ROW);
+        self.number(row)
+    }
+
+    fn reference(&mut self) -> Result<(), AllocError> {
+        self.place()?;
+        self.code.push(u8::from(self.dice.flag()))?;
+        self.code.push(u8::from(self.dice.flag()))?;
+        Ok(())
+    }
+
+    fn cell(&mut self) -> Result<(), AllocError> {
+        self.code.push(CELL)?;
+        self.reference()
+    }
+
+    fn cells(&mut self) -> Result<(), AllocError> {
+        self.code.push(CELLS)?;
+        self.reference()?;
+        self.reference()
+    }
+
+    // A box; its corners are the wrong way round if its columns go past the last one.
+    fn area(&mut self) -> Result<(), AllocError> {
+        let left = self.dice.byte();
+        let top = self.dice.near(LAST_ROW);
+        self.code.push(left)?;
+        self.number(top)?;
+        let wide = if self.dice.flag() {
+            self.dice.byte()
+        } else {
+            WIDE
+        };
+        self.code.push(left.wrapping_add(wide))?;
+        let bottom = top + HIGH - 1 + self.dice.below(3);
+        self.number(bottom)
+    }
+
+    fn text(&mut self, long: u64) -> Result<(), AllocError> {
+        self.number(long)?;
+        for _ in 0..long {
+            self.code.push(b'a' + self.dice.below(26) as u8)?;
         }
+        Ok(())
     }
-    awaited
-}
 
-fn minuses(code: &mut Buffer, dice: &mut Dice) {
-    for _ in 0..MINUSES + dice.below(6) {
-        code.push(OPPOSITE);
+    fn name(&mut self) -> Result<(), AllocError> {
+        let long = 1 + self.dice.near(LONGEST_NAME - 1);
+        self.text(long)
     }
-}
 
-fn long_formula(code: &mut Buffer, dice: &mut Dice) {
-    code.append(&[FUNCTION, IF, 4]);
-    for long in [
-        LONGEST_TEXT,
-        LONGEST_TEXT,
-        LONGEST_TEXT,
-        FOURTH + dice.below(5),
-    ] {
-        code.append(&[CONSTANT, TEXT]);
-        text(code, long, dice);
-    }
-}
-
-fn formula(code: &mut Buffer, dice: &mut Dice) {
-    match dice.below(16) {
-        0 => return long_formula(code, dice),
-        1 | 2 => minuses(code, dice),
-        _ => {}
-    }
-    for _ in 0..inners(code, dice) {
-        leaf(code, dice);
-    }
-}
-
-fn stretch(code: &mut Buffer, dice: &mut Dice) {
-    let rows = dice.flag();
-    let last = if rows == 1 { LAST_ROW } else { LAST_COLUMN };
-    code.push(rows);
-    code.number(dice.near(last));
-    code.number(dice.near(last) + 1);
-}
-
-// A command of any kind; half of them set a cell.
-pub fn command(dice: &mut Dice) -> Buffer {
-    let mut code = Buffer::new();
-    let kind = if dice.flag() == 0 {
-        SET
-    } else {
-        SET + dice.below(COPY as u64) as u8
-    };
-    code.push(kind);
-    match kind {
-        SET => {
-            place(&mut code, dice);
-            formula(&mut code, dice);
-        }
-        WIPE | ROWS => area(&mut code, dice),
-        SHOW | WRITTEN => place(&mut code, dice),
-        NAME => {
-            name(&mut code, dice);
-            if dice.flag() == 0 {
-                cell(&mut code, dice)
-            } else {
-                cells(&mut code, dice)
+    fn constant(&mut self) -> Result<(), AllocError> {
+        match self.dice.below(3) {
+            0 => {
+                let below_zero = u8::from(self.dice.flag());
+                self.code
+                    .extend_from_slice(&[CONSTANT, NUMBER, below_zero])?;
+                let millionths = self.dice.near(LARGEST);
+                self.number(millionths)
+            }
+            1 => {
+                self.code.extend_from_slice(&[CONSTANT, TEXT])?;
+                let long = self.dice.near(LONGEST_TEXT);
+                self.text(long)
+            }
+            _ => {
+                let truth = u8::from(self.dice.flag());
+                self.code.extend_from_slice(&[CONSTANT, TRUTH, truth])
             }
         }
-        UNNAME => name(&mut code, dice),
-        INSERT | REMOVE => stretch(&mut code, dice),
-        _ => {
-            area(&mut code, dice);
-            place(&mut code, dice);
+    }
+
+    // A formula with no other in it: mostly one of the core.
+    fn leaf(&mut self) -> Result<(), AllocError> {
+        match self.dice.below(16) {
+            0 => self.cells(),
+            1 => {
+                self.code.push(NAMED)?;
+                self.name()
+            }
+            2 => {
+                self.code.push(GONE)?;
+                Ok(())
+            }
+            3..=8 => self.cell(),
+            _ => self.constant(),
         }
     }
-    code
+
+    fn function(&mut self) -> Result<u64, AllocError> {
+        let which = if self.dice.flag() {
+            self.dice.near(LAST_FUNCTION as u64) as u8
+        } else {
+            IF
+        };
+        let many = self.dice.near(MOST_VALUES as u64);
+        self.code.extend_from_slice(&[FUNCTION, which, many as u8])?;
+        Ok(many)
+    }
+
+    // The front of a formula with others in it: how many.
+    fn inner(&mut self) -> Result<u64, AllocError> {
+        match self.dice.below(4) {
+            0 => {
+                self.code.push(OPPOSITE)?;
+                Ok(1)
+            }
+            1 => self.function(),
+            _ => {
+                let which = self.dice.near(LAST_OPERATOR as u64) as u8;
+                self.code.extend_from_slice(&[OPERATOR, which])?;
+                Ok(2)
+            }
+        }
+    }
+
+    // Fronts of formulas in one another: how many formulas are still to follow.
+    fn inners(&mut self) -> Result<u64, AllocError> {
+        let mut awaited = 1u64;
+        for _ in 0..self.dice.below(INNER) {
+            if awaited > 0 {
+                awaited = awaited.wrapping_sub(1).wrapping_add(self.inner()?);
+            }
+        }
+        Ok(awaited)
+    }
+
+    fn minuses(&mut self) -> Result<(), AllocError> {
+        let many = MINUSES + self.dice.below(6);
+        self.code.resize(self.code.len() + many as usize, OPPOSITE)
+    }
+
+    fn long_formula(&mut self) -> Result<(), AllocError> {
+        self.code.extend_from_slice(&[FUNCTION, IF, 4])?;
+        let fourth = FOURTH + self.dice.below(5);
+        for long in [LONGEST_TEXT, LONGEST_TEXT, LONGEST_TEXT, fourth] {
+            self.code.extend_from_slice(&[CONSTANT, TEXT])?;
+            self.text(long)?;
+        }
+        Ok(())
+    }
+
+    fn formula(&mut self) -> Result<(), AllocError> {
+        match self.dice.below(16) {
+            0 => return self.long_formula(),
+            1 | 2 => self.minuses()?,
+            _ => {}
+        }
+        for _ in 0..self.inners()? {
+            self.leaf()?;
+        }
+        Ok(())
+    }
+
+    fn stretch(&mut self) -> Result<(), AllocError> {
+        let rows = self.dice.flag();
+        let last = if rows { LAST_ROW } else { LAST_COLUMN };
+        self.code.push(u8::from(rows))?;
+        let first = self.dice.near(last);
+        self.number(first)?;
+        let many = self.dice.near(last) + 1;
+        self.number(many)
+    }
+
+    // What a name stands for.
+    fn target(&mut self) -> Result<(), AllocError> {
+        if self.dice.flag() {
+            self.cells()
+        } else {
+            self.cell()
+        }
+    }
+
+    // What stands behind the first byte of a command.
+    fn parts(&mut self, kind: u8) -> Result<(), AllocError> {
+        match kind {
+            SET => {
+                self.place()?;
+                self.formula()
+            }
+            WIPE | ROWS => self.area(),
+            SHOW | WRITTEN => self.place(),
+            NAME => {
+                self.name()?;
+                self.target()
+            }
+            UNNAME => self.name(),
+            INSERT | REMOVE => self.stretch(),
+            _ => {
+                self.area()?;
+                self.place()
+            }
+        }
+    }
+
+    // Adds a command of any kind; half of them set a cell.
+    pub(super) fn command(&mut self) -> Result<(), AllocError> {
+        let kind = if self.dice.flag() {
+            SET + self.dice.below(COPY as u64) as u8
+        } else {
+            SET
+        };
+        self.code.push(kind)?;
+        self.parts(kind)
+    }
 }

@@ -1,8 +1,10 @@
 // Another reader of commands, to hold the proved one to. It goes by positions and whole lengths, and not by what is left of the bytes.
 // It has no recursion: a formula is cut into fronts from its first byte on, and its depth is found from the last front back.
 // Positions are added up with wrapping, since none comes near the largest number.
-use crate::buffer::Buffer;
-use crate::numbers::*;
+use crate::codes::*;
+use spelling::place::{Area, Place};
+use std::alloc::{AllocError, Global};
+use std::iter::successors;
 
 // The whole length of a command with one place, two, a stretch of rows or columns, or a box and a place.
 const ONE_PLACE: usize = 10;
@@ -12,12 +14,14 @@ const TWO_PLACES: usize = 19;
 const STRETCH: usize = 18;
 
 const THREE_PLACES: usize = 28;
-// Where a formula begins, and how many bytes a reference has.
+// Where a formula begins, and how many bytes a place and a reference have.
 const FORMULA: usize = 10;
+
+const PLACE: usize = 9;
 
 const REFERENCE: usize = 11;
 
-#[derive(Clone, Copy, PartialEq, Eq)]
+#[derive(Clone, Copy, Debug, PartialEq, Eq)]
 pub enum Verdict {
     Core,
     Other,
@@ -25,277 +29,258 @@ pub enum Verdict {
 }
 
 // Where the formulas in a formula begin, how many they are, and whether it is of the core but for them.
-#[derive(Clone, Copy)]
-struct Front {
-    end: usize,
+#[derive(Clone, Copy, Debug, PartialEq, Eq)]
+struct Front<'a> {
+    end: At<'a>,
     holds: u8,
     core: bool,
 }
 
-pub fn byte(bytes: &[u8], at: usize) -> Option<u8> {
-    bytes.get(at).copied()
-}
-
-pub fn eight(bytes: &[u8], at: usize) -> Option<u64> {
-    let mut number = 0;
-    for i in 0..8 {
-        let Some(b) = byte(bytes, at.wrapping_add(i)) else {
-            return None;
-        };
-        number = number << 8 | u64::from(b);
-    }
-    Some(number)
-}
-
-fn is_byte(bytes: &[u8], at: usize, last: u8) -> bool {
-    matches!(byte(bytes, at), Some(b) if b <= last)
-}
-
-fn is_number(bytes: &[u8], at: usize, first: u64, last: u64) -> bool {
-    matches!(eight(bytes, at), Some(n) if first <= n && n <= last)
-}
-
-fn is_place(bytes: &[u8], at: usize) -> bool {
-    is_number(bytes, at.wrapping_add(1), 0, LAST_ROW)
-}
-
-fn is_reference(bytes: &[u8], at: usize) -> bool {
-    is_place(bytes, at)
-        && is_byte(bytes, at.wrapping_add(9), 1)
-        && is_byte(bytes, at.wrapping_add(10), 1)
+// A position among the bytes of a command.
+#[derive(Clone, Copy, Debug, PartialEq, Eq)]
+pub struct At<'a> {
+    bytes: &'a [u8],
+    at: usize,
 }
 
 // How many there are from the first to the last; none if these are the wrong way round.
-fn span(first: u64, last: u64) -> u64 {
-    if first <= last {
-        (last - first).saturating_add(1)
-    } else {
-        0
-    }
+fn span(first: u64, last: u64) -> Option<u64> {
+    last.checked_sub(first)?.checked_add(1)
 }
 
-// How many places the box behind a command's first byte has; none if it is no box.
-fn places(bytes: &[u8]) -> u64 {
-    match (
-        byte(bytes, 1),
-        eight(bytes, 2),
-        byte(bytes, 10),
-        eight(bytes, 11),
-    ) {
-        (Some(left), Some(top), Some(right), Some(bottom)) if bottom <= LAST_ROW => span(
-            u64::from(left),
-            u64::from(right),
-        ).saturating_mul(span(top, bottom)),
-        _ => 0,
-    }
-}
-
-// Where a text with its length before it ends.
-fn text(bytes: &[u8], at: usize, longest: u64) -> Option<usize> {
-    match eight(bytes, at) {
-        Some(long) if long <= longest => {
-            let end = at.wrapping_add(8).wrapping_add(long as usize);
-            if end <= bytes.len() { Some(end) } else { None }
-        }
-        _ => None,
-    }
+// How many places a box has.
+fn places(area: Area) -> Option<u64> {
+    let wide = span(u64::from(area.first.col), u64::from(area.last.col))?;
+    wide.checked_mul(span(u64::from(area.first.row), u64::from(area.last.row))?)
 }
 
 fn is_word(text: &[u8]) -> bool {
-    for b in text {
-        if !b.is_ascii_alphanumeric() && *b != b'_' {
-            return false;
+    !text.is_empty() && text.iter().all(|b| b.is_ascii_alphanumeric() || *b == b'_')
+}
+
+impl<'a> At<'a> {
+    pub fn start(bytes: &'a [u8]) -> At<'a> {
+        At { bytes, at: 0 }
+    }
+
+    pub fn after(self, many: usize) -> At<'a> {
+        At {
+            bytes: self.bytes,
+            at: self.at.wrapping_add(many),
         }
     }
-    !text.is_empty()
-}
 
-fn name(bytes: &[u8], at: usize) -> Option<usize> {
-    let Some(end) = text(bytes, at, LONGEST_NAME) else {
-        return None;
-    };
-    match bytes.get(at.wrapping_add(8)..end) {
-        Some(word) if is_word(word) => Some(end),
-        _ => None,
+    fn is_end(self) -> bool {
+        self.at == self.bytes.len()
     }
-}
 
-fn is_millionths(bytes: &[u8], at: usize) -> bool {
-    match byte(bytes, at) {
-        Some(0) => is_number(bytes, at.wrapping_add(1), 0, LARGEST),
-        // one more below zero
-        Some(1) => is_number(bytes, at.wrapping_add(1), 0, LARGEST - 1),
-        _ => false,
+    pub fn byte(self) -> Option<u8> {
+        self.bytes.get(self.at).copied()
     }
-}
 
-fn constant(bytes: &[u8], at: usize) -> Option<usize> {
-    let next = at.wrapping_add(1);
-    match byte(bytes, at) {
-        Some(NUMBER) if is_millionths(bytes, next) => Some(at.wrapping_add(10)),
-        Some(TEXT) => text(bytes, next, LONGEST_TEXT),
-        Some(TRUTH) if is_byte(bytes, next, 1) => Some(at.wrapping_add(2)),
-        _ => None,
+    fn eight(self) -> Option<u64> {
+        let (eight, _) = self.bytes.get(self.at..)?.split_first_chunk::<8>()?;
+        Some(u64::from_be_bytes(*eight))
     }
-}
 
-fn leaf(bytes: &[u8], tag: u8, at: usize) -> Option<usize> {
-    let next = at.wrapping_add(REFERENCE);
-    match tag {
-        CONSTANT => constant(bytes, at),
-        CELL if is_reference(bytes, at) => Some(next),
-        CELLS if is_reference(bytes, at) && is_reference(bytes, next) => Some(next.wrapping_add(
-            REFERENCE,
-        )),
-        NAMED => name(bytes, at),
-        GONE => Some(at),
-        _ => None,
+    fn is_byte(self, last: u8) -> bool {
+        self.byte().is_some_and(|b| b <= last)
     }
-}
 
-fn function(bytes: &[u8], at: usize) -> Option<Front> {
-    match (byte(bytes, at), byte(bytes, at.wrapping_add(1))) {
-        (Some(which), Some(holds)) if which <= LAST_FUNCTION && holds <= MOST_VALUES => Some(
-            Front {
-                end: at.wrapping_add(2),
-                holds,
-                core: which == IF,
-            },
-        ),
-        _ => None,
+    fn is_number(self, first: u64, last: u64) -> bool {
+        self.eight().is_some_and(|n| first <= n && n <= last)
     }
-}
 
-fn front_at(bytes: &[u8], at: usize) -> Option<Front> {
-    let next = at.wrapping_add(1);
-    match byte(bytes, at) {
-        Some(OPPOSITE) => Some(Front {
-            end: next,
-            holds: 1,
-            core: true,
-        }),
-        Some(OPERATOR) if is_byte(bytes, next, LAST_OPERATOR) => Some(Front {
-            end: next.wrapping_add(1),
-            holds: 2,
-            core: true,
-        }),
-        Some(FUNCTION) => function(bytes, next),
-        Some(tag) => match leaf(bytes, tag, next) {
-            Some(end) => Some(Front {
-                end,
+    pub fn place(self) -> Option<Place> {
+        Some(Place {
+            col: self.byte()?,
+            row: u16::try_from(self.after(1).eight()?).ok()?,
+        })
+    }
+
+    // Two corners of a box, the upper left one first.
+    pub fn area(self) -> Option<Area> {
+        let first = self.place()?;
+        let last = self.after(PLACE).place()?;
+        (first.col <= last.col && first.row <= last.row).then_some(Area { first, last })
+    }
+
+    fn is_reference(self) -> bool {
+        self.place().is_some() && self.after(9).is_byte(1) && self.after(10).is_byte(1)
+    }
+
+    // Where a text with its length before it ends.
+    fn text(self, longest: u64) -> Option<At<'a>> {
+        let long = self.eight().filter(|long| *long <= longest)?;
+        Some(self.after(8).after(long as usize)).filter(|end| end.at <= self.bytes.len())
+    }
+
+    fn name(self) -> Option<At<'a>> {
+        let end = self.text(LONGEST_NAME)?;
+        is_word(self.bytes.get(self.after(8).at..end.at)?).then_some(end)
+    }
+
+    fn is_millionths(self) -> bool {
+        match self.byte() {
+            Some(0) => self.after(1).is_number(0, LARGEST),
+            // one more below zero
+            Some(1) => self.after(1).is_number(0, LARGEST - 1),
+            _ => false,
+        }
+    }
+
+    fn constant(self) -> Option<At<'a>> {
+        let next = self.after(1);
+        match self.byte()? {
+            NUMBER if next.is_millionths() => Some(self.after(10)),
+            TEXT => next.text(LONGEST_TEXT),
+            TRUTH if next.is_byte(1) => Some(self.after(2)),
+            _ => None,
+        }
+    }
+
+    fn leaf(self, tag: u8) -> Option<At<'a>> {
+        let next = self.after(REFERENCE);
+        match tag {
+            CONSTANT => self.constant(),
+            CELL if self.is_reference() => Some(next),
+            CELLS if self.is_reference() && next.is_reference() => Some(next.after(REFERENCE)),
+            NAMED => self.name(),
+            GONE => Some(self),
+            _ => None,
+        }
+    }
+
+    fn function(self) -> Option<Front<'a>> {
+        let which = self.byte().filter(|which| *which <= LAST_FUNCTION)?;
+        let holds = self.after(1).byte().filter(|holds| *holds <= MOST_VALUES)?;
+        Some(Front {
+            end: self.after(2),
+            holds,
+            core: which == IF,
+        })
+    }
+
+    fn front(self) -> Option<Front<'a>> {
+        let next = self.after(1);
+        match self.byte()? {
+            OPPOSITE => Some(Front {
+                end: next,
+                holds: 1,
+                core: true,
+            }),
+            OPERATOR if next.is_byte(LAST_OPERATOR) => Some(Front {
+                end: next.after(1),
+                holds: 2,
+                core: true,
+            }),
+            FUNCTION => next.function(),
+            tag => Some(Front {
+                end: next.leaf(tag)?,
                 holds: 0,
                 core: tag <= CELL,
             }),
-            None => None,
-        },
-        None => None,
-    }
-}
-
-// Puts down how many formulas each front has in it, first to last: whether all are of the core, if all are fronts.
-fn fronts(bytes: &[u8], held: &mut Buffer) -> Option<bool> {
-    let mut at = FORMULA;
-    let mut core = true;
-    // each front takes a byte at least, so that there are no more of them than bytes
-    for _ in 0..bytes.len() {
-        if at < bytes.len() {
-            let Some(front) = front_at(bytes, at) else {
-                return None;
-            };
-            held.push(front.holds);
-            core &= front.core;
-            at = front.end;
         }
     }
-    Some(core)
+
+    fn is_stretch(self) -> bool {
+        let last = match self.byte() {
+            Some(0) => LAST_COLUMN,
+            Some(1) => LAST_ROW,
+            _ => return false,
+        };
+        self.after(1).is_number(0, last) && self.after(9).is_number(1, last + 1)
+    }
+
+    // Where a cell or cells end.
+    fn target(self) -> Option<At<'a>> {
+        let tag = self.byte().filter(|tag| matches!(*tag, CELL..=CELLS))?;
+        self.after(1).leaf(tag)
+    }
+
+    fn is_naming(self) -> bool {
+        self.name()
+            .and_then(|end| end.target())
+            .is_some_and(|end| end.is_end())
+    }
 }
 
 // Takes so many depths off: the largest.
-fn deepest(depths: &mut Buffer, many: u8) -> Option<u8> {
-    let mut most = 0;
-    for _ in 0..many {
-        let Some(depth) = depths.pop() else {
-            return None;
-        };
-        most = most.max(depth);
-    }
-    Some(most)
+fn deepest(depths: &mut Vec<u8>, many: u8) -> Option<u8> {
+    let at = depths.len().checked_sub(usize::from(many))?;
+    Some(depths.drain(at..).max().unwrap_or(0))
 }
 
 // How deep the formula with these fronts is; none if they are not one formula.
-fn depth(held: &mut Buffer) -> Option<u8> {
-    let mut depths = Buffer::new();
-    for _ in 0..held.len() {
-        let Some(most) = deepest(&mut depths, held.pop().unwrap_or(0)) else {
-            return None;
+fn depth(heap: Global, fronts: &[Front]) -> Result<Option<u8>, AllocError> {
+    let mut depths = Vec::new(heap);
+    for front in fronts.iter().rev() {
+        let Some(most) = deepest(&mut depths, front.holds) else {
+            return Ok(None);
         };
-        depths.push(most.saturating_add(1));
+        depths.push(most.saturating_add(1))?;
     }
-    if depths.len() == 1 {
-        depths.pop()
+    match depths.as_slice() {
+        [depth] => Ok(Some(*depth)),
+        _ => Ok(None),
+    }
+}
+
+// A formula that goes to the end.
+fn formula(heap: Global, start: At) -> Result<Verdict, AllocError> {
+    // each front takes a byte at least, so that there are no more of them than bytes
+    let fronts: Vec<Front> = successors(start.front(), |front| front.end.front())
+        .take(start.bytes.len())
+        .collect(heap)?;
+    if !fronts.last().is_some_and(|front| front.end.is_end()) {
+        return Ok(Verdict::Malformed);
+    }
+    match depth(heap, fronts.as_slice())? {
+        Some(1..=DEEPEST) if fronts.iter().all(|front| front.core) => Ok(Verdict::Core),
+        Some(1..=DEEPEST) => Ok(Verdict::Other),
+        _ => Ok(Verdict::Malformed),
+    }
+}
+
+fn set(heap: Global, start: At) -> Result<Verdict, AllocError> {
+    if start.after(1).place().is_none() || start.bytes.len() > FORMULA + LONGEST_FORMULA {
+        return Ok(Verdict::Malformed);
+    }
+    formula(heap, start.after(FORMULA))
+}
+
+fn is_core(start: At) -> bool {
+    let parts = start.after(1);
+    match (start.byte(), start.bytes.len()) {
+        (Some(WIPE), TWO_PLACES) => parts.area().is_some(),
+        (Some(SHOW | WRITTEN), ONE_PLACE) => parts.place().is_some(),
+        (Some(ROWS), TWO_PLACES) => matches!(parts.area().and_then(places), Some(1..=MOST_PLACES)),
+        _ => false,
+    }
+}
+
+fn is_other(start: At) -> bool {
+    let parts = start.after(1);
+    match (start.byte(), start.bytes.len()) {
+        (Some(NAME), _) => parts.is_naming(),
+        (Some(UNNAME), _) => parts.name().is_some_and(|end| end.is_end()),
+        (Some(INSERT | REMOVE), STRETCH) => parts.is_stretch(),
+        (Some(COPY), THREE_PLACES) => {
+            parts.area().is_some() && start.after(TWO_PLACES).place().is_some()
+        }
+        _ => false,
+    }
+}
+
+pub fn judge(heap: Global, bytes: &[u8]) -> Result<Verdict, AllocError> {
+    let start = At::start(bytes);
+    if start.byte() == Some(SET) {
+        set(heap, start)
+    } else if is_core(start) {
+        Ok(Verdict::Core)
+    } else if is_other(start) {
+        Ok(Verdict::Other)
     } else {
-        None
-    }
-}
-
-fn set(bytes: &[u8]) -> Verdict {
-    let mut held = Buffer::new();
-    if !is_place(bytes, 1) || bytes.len() > FORMULA + LONGEST_FORMULA {
-        return Verdict::Malformed;
-    }
-    match (fronts(bytes, &mut held), depth(&mut held)) {
-        (Some(true), Some(1..=DEEPEST)) => Verdict::Core,
-        (Some(false), Some(1..=DEEPEST)) => Verdict::Other,
-        _ => Verdict::Malformed,
-    }
-}
-
-fn is_stretch(bytes: &[u8]) -> bool {
-    let last = match byte(bytes, 1) {
-        Some(0) => LAST_COLUMN,
-        Some(1) => LAST_ROW,
-        _ => return false,
-    };
-    is_number(bytes, 2, 0, last) && is_number(bytes, 10, 1, last + 1)
-}
-
-fn is_naming(bytes: &[u8]) -> bool {
-    let Some(end) = name(bytes, 1) else {
-        return false;
-    };
-    match byte(bytes, end) {
-        Some(tag @ CELL..=CELLS) => leaf(bytes, tag, end.wrapping_add(1)) == Some(bytes.len()),
-        _ => false,
-    }
-}
-
-fn is_core(bytes: &[u8]) -> bool {
-    match (byte(bytes, 0), bytes.len()) {
-        (Some(WIPE), TWO_PLACES) => places(bytes) > 0,
-        (Some(SHOW | WRITTEN), ONE_PLACE) => is_place(bytes, 1),
-        (Some(ROWS), TWO_PLACES) => matches!(places(bytes), 1..=MOST_PLACES),
-        _ => false,
-    }
-}
-
-fn is_other(bytes: &[u8]) -> bool {
-    match (byte(bytes, 0), bytes.len()) {
-        (Some(NAME), _) => is_naming(bytes),
-        (Some(UNNAME), long) => name(bytes, 1) == Some(long),
-        (Some(INSERT | REMOVE), STRETCH) => is_stretch(bytes),
-        (Some(COPY), THREE_PLACES) => places(bytes) > 0 && is_place(bytes, TWO_PLACES),
-        _ => false,
-    }
-}
-
-pub fn judge(bytes: &[u8]) -> Verdict {
-    if byte(bytes, 0) == Some(SET) {
-        set(bytes)
-    } else if is_core(bytes) {
-        Verdict::Core
-    } else if is_other(bytes) {
-        Verdict::Other
-    } else {
-        Verdict::Malformed
+        Ok(Verdict::Malformed)
     }
 }

@@ -1,5 +1,6 @@
 -- Reckoning with signed numbers is reckoning with millionths, and nothing overflows 128 bits.
-use Rattle.std.proofs.Common.{◌≡◌, ℕ, zero, suc, ◌-◌, ◌*◌, ◌/◌, ◌^◌, ◌<◌, ◌≤◌, true, false, ℤ, pos, negsuc, ◌+ℤ◌, ◌*ℤ◌, neg_ℤ, sym, refl, ap, ◌∙◌, ap₂, le_trans, mul-le-mul, div-le_self, arith, w64, SFits, to_z, of_z, rules}
+use Rattle.std.proofs.Math.Nat.{suc-ne-zero}
+use Rattle.std.proofs.Common.{◌≡◌, ℕ, zero, suc, ◌-◌, ◌*◌, ◌/◌, ◌^◌, ◌<◌, ◌≤◌, true, false, ℤ, pos, negsuc, ◌+ℤ◌, ◌*ℤ◌, neg_ℤ, sym, refl, ap, ◌∙◌, ap₂, le_trans, mul-le-mul, div-le_self, arith, w64, Bool, SFits, to_z, of_z, rules}
 use native.Mathlib.Nat.{zero-div}
 use lib.Signed.{lt_z, quot_z, mag}
 use mir.Syntax.{w128}
@@ -7,8 +8,15 @@ use borrow.Author.Numbers.{signed_product}
 use Rattle.std.proofs.lemmas.Bool.Decides.{nat_tests}
 use Rattle.std.proofs.lemmas.Bool.{ne_eqb}
 use Rattle.std.proofs.lemmas.Int.{to_z-of_z, ints}
-use Rattle.plain.specs.Term.{Num, plus, Value, num, wrong, negative, add, times, divided, within, pick, apart, other, is_zero, less_num}
-use Rattle.numbers.specs.Meaning.{signed}
+use Rattle.plain.specs.Term.{Num, plus, Value, num, wrong, negative, add, times, divided, within, pick, apart, other, is_zero, less_num, minus}
+use Rattle.plain.specs.Read.{signed as spelled}
+use Rattle.std.specs.Ordering.{is_lt, int_cmp}
+use Rattle.std.specs.Prelude.{Result, Ok, Err, MatchOption}
+use Rattle.std.specs.Result.{result_ok}
+use Rattle.plain.specs.Commands.{small_num}
+use Rattle.numbers.specs.declared.wrong.Wrong.{Wrong}
+use Rattle.numbers.specs.declared.millionths.Millionths.{Millionths}
+use Rattle.numbers.specs.Meaning.{signed, num_of, made_of}
 
 neg_num : (k : ℕ) → signed (neg_ℤ (pos k)) ≡ negative k
 neg_num zero = refl
@@ -157,16 +165,6 @@ module _ (a b : ℤ) (x y : Num) (v : Value) (f : SFits w64 a) (g : SFits w64 b)
       rw (wide a f, wide b g, to_z-of_z w128 (a *ℤ pos 1000000) scaled_fits)
       (rw (to_z-of_z w64 b g) (not_zero b g n), quotient_fits (a *ℤ pos 1000000) b (omega (arith, scaled a f)))
 
-  pub less_so : lt_z (to_z w64 (of_z w64 a)) (to_z w64 (of_z w64 b)) ≡ less_num x y
-  unfolding less_num
-  less_so = rw (to_z-of_z w64 a f, to_z-of_z w64 b g, ← p, ← q) (less_is a b)
-    where
-      less_is : (a b : ℤ) → lt_z a b ≡ less_num (signed a) (signed b)
-      less_is (pos a) (pos b) = refl
-      less_is (pos a) (negsuc b) = refl
-      less_is (negsuc a) (pos b) = refl
-      less_is (negsuc a) (negsuc b) = refl
-
 pub opposite_so : (a : ℤ) (x : Num) (v : Value) → SFits w64 a → signed a ≡ x → v ≡ within (signed (cut (pos 0 +ℤ neg_ℤ (wider a)))) → v ≡ within (other x)
 opposite_so a x v f p h =
     let s : SFits w128 (pos 0 +ℤ neg_ℤ a) = search (rules, ints) in
@@ -174,3 +172,34 @@ opposite_so a x v f p h =
 
 pub zero_so : (b : ℤ) (y : Num) (v : Value) → signed b ≡ y → b ≡ pos 0 → wrong 2 ≡ pick (is_zero y) (wrong 2) v
 zero_so b y v q e = let z : is_zero y ≡ true = ap is_zero (sym q) ∙ zero_is b e in rw z
+
+-- the derived order is that of numbers
+pub less_is : (a b : ℤ) → is_lt (int_cmp a b) ≡ less_num (signed a) (signed b)
+unfolding less_num
+less_is (pos a) (pos b) = grind (arith, nat_tests)
+less_is (pos a) (negsuc b) = grind (arith, nat_tests)
+less_is (negsuc a) (pos b) = grind (arith, nat_tests)
+less_is (negsuc a) (negsuc b) = grind (arith, nat_tests)
+
+-- what is within the limit is small
+limited : (b : Bool) (r : Result Millionths Wrong) (n : Num) → made_of r ≡ pick b (num n) (wrong 3) → MatchOption (result_ok r) (b ≡ false) (λ m. (b ≡ true) × (num_of m ≡ n))
+limited true (Ok m) n e = (refl, cc)
+limited true (Err w) n e = absurd (suc-ne-zero 0 cc)
+limited false (Ok m) n e = absurd (suc-ne-zero 0 cc)
+limited false (Err w) n e = refl
+
+pub small_so : (r : Result Millionths Wrong) (n : Num) → made_of r ≡ within n → MatchOption (result_ok r) (small_num n ≡ false) (λ m. (small_num n ≡ true) × (num_of m ≡ n))
+unfolding within small_num
+small_so r (plus n) e = limited _ r (plus n) e
+small_so r (minus n) e = limited _ r (minus n) e
+
+-- a number as it is spelled, as the code has it
+pub below_so : (n : ℕ) → n < 2 ^ 64 → signed (cut (negsuc 0 +ℤ neg_ℤ (cut (pos n)))) ≡ spelled true n
+below_so n h =
+    let p : SFits w128 (pos n) = record { sfits = omega arith } in
+    let e : negsuc 0 +ℤ neg_ℤ (pos n) ≡ negsuc n = grind (arith, nat_tests) in
+    let s : SFits w128 (negsuc n) = record { sfits = omega arith } in
+    rw (to_z-of_z w128 (pos n) p, e) (ap signed (to_z-of_z w128 (negsuc n) s))
+
+pub above_so : (n : ℕ) → n < 2 ^ 64 → signed (cut (pos n)) ≡ spelled false n
+above_so n h = let s : SFits w128 (pos n) = record { sfits = omega arith } in ap signed (to_z-of_z w128 (pos n) s)

@@ -1,8 +1,10 @@
 -- What the entry that reckons with two numbers answers. Assumes nothing: these are definitions.
-use Rattle.std.specs.Prelude.{ℕ, zero, suc, ◌&&◌, Some, None, Option, ◌==◌, nat_lt}
+use Rattle.std.specs.Prelude.{ℕ, zero, suc, ◌&&◌, Some, None, Option, Result, ok_or, ◌==◌, nat_lt}
 use Rattle.plain.specs.Term.{pick, Num, plus, minus, Value, empty, num, txt, truth, wrong, two, within, add, other, times, divided, is_zero}
 use Rattle.numbers.specs.declared.reckon.Reply.{Reply}
 use Rattle.numbers.specs.declared.reckon.Reply.TheVariants as reply
+use Rattle.numbers.specs.declared.reckon.Refusal.{Refusal}
+use Rattle.numbers.specs.declared.reckon.Refusal.TheVariants as refusal
 use Rattle.numbers.specs.declared.reckon.Operation.{Operation}
 use Rattle.numbers.specs.declared.reckon.Operation.TheVariants.{Sum, Difference, Product, Quotient}
 
@@ -31,6 +33,18 @@ operation_of (suc zero) = Some Difference
 operation_of (suc (suc zero)) = Some Product
 operation_of (suc (suc (suc zero))) = Some Quotient
 operation_of (suc (suc (suc (suc n)))) = None
+
+-- the operation with this number, or why there is none
+abbrev pub operation_numbered : ℕ → Result Operation Refusal
+operation_numbered k = ok_or (operation_of k) refusal.Operation
+
+-- why nothing is reckoned, as a number and as a reply
+abbrev pub refusal_number : Refusal → ℕ
+refusal_number refusal.Operation = 1
+refusal_number refusal.Size = 2
+
+abbrev pub refused : Refusal → Reply
+refused r = reply.Refused (refusal_number r)
 
 abbrev pub worked_out : Operation → Num → Num → Value
 worked_out Sum a b = within (add a b)

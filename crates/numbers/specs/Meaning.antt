@@ -1,5 +1,7 @@
 -- Which plain numbers and wrong values the code's stand for. Assumes nothing: these are definitions.
-use Rattle.std.specs.Prelude.{ℕ, ℤ, pos, negsuc, Ok, Err, Result}
+use Rattle.std.specs.Prelude.{◌≡◌, ℕ, ℤ, pos, negsuc, Bool, true, false, Ok, Err, Result, Option, MatchOption}
+use Rattle.plain.specs.Commands.{small_num}
+use Rattle.plain.specs.Read as read
 use Rattle.plain.specs.Term as plain
 use Rattle.numbers.specs.declared.wrong.Wrong.{Wrong}
 use Rattle.numbers.specs.declared.wrong.Wrong.TheVariants.{Kind, Divisor, Size, Name, Circle, Gone, Missing, Count}
@@ -27,3 +29,9 @@ num_of m = signed m.count
 abbrev pub made_of : Result Millionths Wrong → plain.Value
 made_of (Ok m) = plain.num (num_of m)
 made_of (Err w) = plain.wrong (wrong_number w)
+
+-- the number that a flag and so many millionths spell, or none where it is too large
+abbrev pub IsFromSign : Bool → ℕ → Option Millionths → Type 0
+IsFromSign below_zero millionths res =
+    MatchOption res (small_num (read.signed below_zero millionths) ≡ false)
+    (λ m. (small_num (read.signed below_zero millionths) ≡ true) × (num_of m ≡ read.signed below_zero millionths))

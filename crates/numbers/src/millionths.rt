@@ -4,21 +4,22 @@ ghost use Rattle.plain.specs.Term.{add, divided, is_zero, less_num, other as opp
 ghost use Rattle.numbers.specs.Meaning.{made_of, num_of, signed};
 
 use crate::wrong::Wrong;
+use std::fmt;
 
-#[derive(Clone, Copy)]
+#[derive(Clone, Copy, Debug, PartialEq, Eq, PartialOrd, Ord)]
 pub struct Millionths {
-    pub(crate) count: i64,
+    count: i64,
 }
 
 const LIMIT: i128 = 4611686018427387904;
 
-const ONE: i128 = 1_000_000;
+const ONE: u64 = 1_000_000;
 
 impl Millionths {
     pub const ZERO: Millionths = Millionths { count: 0 };
 
     // So many millionths, if they are within the limit.
-    fn within(count: i128) -> Result<Millionths, Wrong>
+    pub(crate) fn within(count: i128) -> Result<Millionths, Wrong>
         ensures { made_of result ≡ within (signed count) }
     {
         if -LIMIT < count && count < LIMIT {
@@ -51,7 +52,7 @@ impl Millionths {
     pub fn times(self, other: Millionths) -> Result<Millionths, Wrong>
         ensures { made_of result ≡ within (times (num_of self) (num_of other)) }
     {
-        Millionths::within(self.count() as i128 * other.count() as i128 / ONE)
+        Millionths::within(self.count() as i128 * other.count() as i128 / ONE as i128)
     }
 
     pub fn divided_by(self, other: Millionths) -> Result<Millionths, Wrong>
@@ -61,7 +62,7 @@ impl Millionths {
         if divisor == 0 {
             return Err(Wrong::Divisor);
         }
-        Millionths::within(self.count() as i128 * ONE / divisor as i128)
+        Millionths::within(self.count() as i128 * ONE as i128 / divisor as i128)
     }
 
     pub fn opposite(self) -> Result<Millionths, Wrong>
@@ -70,9 +71,33 @@ impl Millionths {
         Millionths::within(-(self.count() as i128))
     }
 
+    #[tactic(auto, using(crate::proofs::Signs::less_is))]
     pub fn is_less(self, other: Millionths) -> bool
         ensures { result ≡ less_num (num_of self) (num_of other) }
     {
-        self.count() < other.count()
+        self < other
+    }
+}
+
+// The whole, and behind the point as few of the six decimals as there are.
+impl fmt::Display for Millionths {
+    fn fmt<W: fmt::Write>(&self, f: &mut fmt::Formatter<W>) -> fmt::Result {
+        if self.count < 0 {
+            f.write_str("-")?;
+        }
+        let count = self.count.unsigned_abs();
+        write!(f, "{}", count / ONE)?;
+        let mut left = count % ONE;
+        if left != 0 {
+            f.write_str(".")?;
+        }
+        for unit in [100_000, 10_000, 1_000, 100, 10, 1] {
+            if left == 0 {
+                break;
+            }
+            write!(f, "{}", left / unit)?;
+            left %= unit;
+        }
+        Ok(())
     }
 }

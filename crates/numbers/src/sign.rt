@@ -1,48 +1,21 @@
 // A number as it is spelled: whether it is below zero, and so many millionths, one less than it is below.
-ghost use Rattle.std.specs.Prelude.{◌≡◌, true, false, MatchOption};
-ghost use Rattle.plain.specs.Commands.{small_num};
+ghost use Rattle.std.specs.Prelude.{◌≡◌};
 ghost use Rattle.plain.specs.Read.{signed};
-ghost use Rattle.numbers.specs.Meaning.{num_of};
+ghost use Rattle.numbers.specs.Meaning.{IsFromSign, num_of};
 
 use crate::millionths::Millionths;
 
-const LIMIT: u64 = 4611686018427387904;
-
-// One more than so many below zero.
-fn below(millionths: u64) -> Option<Millionths>
-    ensures { MatchOption result (small_num (signed true millionths) ≡ false) (λ m. (small_num (signed true millionths) ≡ true) × (num_of m ≡ signed true millionths)) }
-{
-    if millionths >= LIMIT - 1 {
-        return None;
-    }
-    Some(Millionths {
-        count: -1 - millionths as i64,
-    })
-}
-
-fn above(millionths: u64) -> Option<Millionths>
-    ensures { MatchOption result (small_num (signed false millionths) ≡ false) (λ m. (small_num (signed false millionths) ≡ true) × (num_of m ≡ signed false millionths)) }
-{
-    if millionths >= LIMIT {
-        return None;
-    }
-    Some(Millionths {
-        count: millionths as i64,
-    })
-}
-
 impl Millionths {
-    // The number, if it is within the limit.
+    // The number, if it is within the limit. A flag and a number: so it comes from the entry and from the bytes of a command, which are fixed.
     pub fn from_sign(below_zero: bool, millionths: u64) -> Option<Millionths>
-        ensures { MatchOption result (small_num (signed below_zero millionths) ≡ false) (λ m. (small_num (signed below_zero millionths) ≡ true) × (num_of m ≡ signed below_zero millionths)) }
+        ensures { IsFromSign below_zero millionths result }
     {
-        if below_zero {
-            below(millionths)
-        } else {
-            above(millionths)
-        }
+        let count = i128::from(millionths);
+        let count = if below_zero { -1 - count } else { count };
+        Millionths::within(count).ok()
     }
 
+    // A flag and a number, as the entry and the bytes of a command spell it: both are fixed.
     pub fn sign(self) -> (bool, u64)
         ensures { signed result.0 result.1 ≡ num_of self }
     {

@@ -2,7 +2,7 @@
 ghost use Rattle.std.specs.Prelude.{◌≡◌};
 ghost use Rattle.numbers.specs.Meaning.{wrong_number};
 
-#[derive(Clone, Copy)]
+#[derive(Clone, Copy, Debug, PartialEq, Eq)]
 pub enum Wrong {
     // Not of the kind that is needed.
     Kind,
@@ -22,11 +22,12 @@ pub enum Wrong {
     Count,
 }
 
-impl Wrong {
-    pub fn number(self) -> u8
-        ensures { result ≡ wrong_number self }
-    {
-        match self {
+// The number that stands for it in a reply, and that the plain sheet has for it.
+impl From<Wrong> for u8 {
+    ghost from_gives = { λ wrong number. number ≡ wrong_number wrong };
+
+    fn from(wrong: Wrong) -> u8 {
+        match wrong {
             Wrong::Kind => 1,
             Wrong::Divisor => 2,
             Wrong::Size => 3,

@@ -2,42 +2,35 @@
 #![tactic(auto)]
 
 mod formulas;
-mod page;
+mod parts;
 mod values;
 
-use formulas::formula;
-use page::Page;
+use formulas::{Unprintable, formula};
 use std::alloc::{AllocError, Global};
-use values::value;
-
-// Formulas that fit are no deeper.
-const DEEPEST: u8 = 32;
+use values::Value;
 
 // What is neither a value nor a formula is shown byte by byte, so that nothing is hidden.
 fn raw_text(heap: Global, row: &[u8]) -> Result<String, AllocError> {
-    let mut page = Page::new(heap);
-    page.put("?");
+    let mut text = String::from_str(heap, "?")?;
     for b in row {
-        page.put(" ");
-        page.put_hex(*b);
+        write!(text, " {b:02x}")?;
     }
-    page.finish()
+    Ok(text)
 }
 
 // A row that shows what a place is worth.
 pub fn value_text(heap: Global, row: &[u8]) -> Result<String, AllocError> {
-    let mut page = Page::new(heap);
-    match value(&mut page, row) {
-        Some([]) => page.finish(),
+    match Value::read(row) {
+        Some((value, [])) => value.to_string(heap),
         _ => raw_text(heap, row),
     }
 }
 
 // A row that shows what is written in a cell.
 pub fn formula_text(heap: Global, row: &[u8]) -> Result<String, AllocError> {
-    let mut page = Page::new(heap);
-    match formula(&mut page, row, DEEPEST) {
-        Some([]) => page.finish(),
-        _ => raw_text(heap, row),
+    match formula(heap, row) {
+        Ok(text) => Ok(text),
+        Err(Unprintable::Malformed) => raw_text(heap, row),
+        Err(Unprintable::Memory(why)) => Err(why),
     }
 }

@@ -1,37 +1,18 @@
 -- The engine's own step, and how a step is told to the world outside. Assumes nothing: these are definitions.
-use Rattle.std.specs.Prelude.{◌≡◌, ℕ, ◌+◌, ◌*◌, Bool, true, false, ◌&&◌, List, [], ◌∷◌, ◌++◌, length, take, drop, ◌==◌, nat_le}
-use Rattle.plain.specs.Term.{pick}
+use Rattle.std.specs.Prelude.{ℕ, Bool, List}
 use Rattle.plain.specs.Device.{so_many_of}
-use Rattle.plain.specs.Run.{Engine, Event, on, said, line, next, Act, read, store, settle, shows, done, refused}
+use Rattle.plain.specs.Run.{Engine}
+use Rattle.events.specs.declared.told.Told.{Told}
+use Rattle.events.specs.Entry.{StepOf, fits_of}
 use Rattle.sheet.specs.Own.{answer}
-use Rattle.sheet.specs.declared.Told.{Told}
-use Rattle.sheet.specs.declared.Told.TheVariants.{Read, Store, Settle, Shows, Done, No}
 
 -- THE ENGINE ITSELF: the main promise is about this, and the contract of `step` says that the code does just this
 unfoldable pub own : Engine
 own = record { start = so_many_of 262144 0; step = λ m ev. record { memory = m; act = answer ev } }
 
--- what the world tells is a kind and some bytes: 0 power, with a number of eight bytes, the highest first, 1 a command, 2 a line, 3 go on
-unfoldable pub from_eight : ℕ → List ℕ → ℕ
-from_eight n [] = n
-from_eight n (b ∷ bs) = from_eight (256 * n + b) bs
-
-unfoldable pub event_of : ℕ → List ℕ → Event
-event_of k bs = pick (k == 0) (on (from_eight 0 (take 8 bs))) (pick (k == 1) (said bs) (pick (k == 2) (line bs) next))
-
-unfoldable pub ActTold : Act → Told → (out out₁ : List ℕ) → Type 0
-ActTold (read k) r out out₁ = (r ≡ Read k) × (out₁ ≡ out)
-ActTold (store k p) r out out₁ = (r ≡ Store k) × (out₁ ≡ p ++ drop (length p) out)
-ActTold (settle k) r out out₁ = (r ≡ Settle k) × (out₁ ≡ out)
-ActTold (shows s) r out out₁ = (r ≡ Shows (length s)) × (out₁ ≡ s ++ drop (length s) out)
-ActTold done r out out₁ = (r ≡ Done) × (out₁ ≡ out)
-ActTold (refused k) r out out₁ = (r ≡ No k) × (out₁ ≡ out)
-
 -- one step: for memories of the engine's own length and a lent row of 131,072 bytes; for others number 0 is told and nothing is changed
-unfoldable pub StepSays : (memory : List ℕ) (kind : ℕ) (bytes out : List ℕ) → Bool → Told → (memory₁ out₁ : List ℕ) → Type 0
-StepSays memory kind bytes out true r memory₁ out₁ =
-    (memory₁ ≡ (own.step memory (event_of kind bytes)).memory) × ActTold (own.step memory (event_of kind bytes)).act r out out₁
-StepSays memory kind bytes out false r memory₁ out₁ = (r ≡ No 0) × (memory₁ ≡ memory) × (out₁ ≡ out)
+abbrev pub StepSays : (memory : List ℕ) (kind : ℕ) (bytes out : List ℕ) → Bool → Told → (memory₁ out₁ : List ℕ) → Type 0
+StepSays = StepOf own
 
-unfoldable pub step_fits : (memory : List ℕ) (kind : ℕ) (bytes out : List ℕ) → Bool
-step_fits memory kind bytes out = length memory == length own.start && (nat_le kind 3 && nat_le 131072 (length out))
+abbrev pub step_fits : (memory : List ℕ) (kind : ℕ) (bytes out : List ℕ) → Bool
+step_fits = fits_of own

@@ -1,5 +1,4 @@
 pub mod Known
 pub mod Own
 pub mod Entry
-pub mod Events
 pub mod Stores

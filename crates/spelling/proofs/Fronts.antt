@@ -1,9 +1,14 @@
 -- Lists of bytes, and what the readers of plain's specs come to on them: the facts that the code's proofs share.
-use Rattle.std.proofs.Common.{◌≡◌, ℕ, zero, suc, ◌+◌, ◌<◌, ◌≤◌, Bool, true, false, ◌&&◌, ltb, leb, ◌≢◌, List, [], ◌∷◌, ◌++◌, length, take, drop, Some, None, Option, refl, arith, MatchOption}
+use Rattle.std.proofs.Common.{◌≡◌, ℕ, zero, suc, ◌+◌, ◌<◌, ◌≤◌, Bool, true, false, ◌&&◌, ltb, leb, ◌≢◌, List, [], ◌∷◌, ◌++◌, length, take, drop, Some, None, Option, Ok, Err, Result, refl, sym, ◌∙◌, arith, MatchOption, OkIff}
+use Rattle.std.specs.Bool.{then_some}
+use Rattle.std.specs.Borrow.{Bor}
+use Rattle.std.specs.Result.{result_ok}
 use Rattle.std.proofs.lemmas.Bool.{and_parts, and_from, and_right, lt-ltb, le-ltb, le-leb, lt-leb, ltb-true}
+use Rattle.std.proofs.lemmas.Option.{none-some, same_Some}
 use Rattle.plain.specs.Term.{eight, with_length, all_bytes}
 use Rattle.plain.specs.Commands.{on_sheet}
 use Rattle.plain.specs.Read.{Got, got, nothing, only, one, number, read_eight, read_counted, flag, value_tag}
+use Rattle.spelling.specs.Meaning.{Reads}
 use Rattle.plain.proofs.EightBytes.{bytes_take}
 use Rattle.plain.proofs.Parts.{given, one_gives, counted_gives}
 
@@ -32,11 +37,26 @@ flag_none (suc (suc n)) bs h k = refl
 pub one_fits : (bs r : List ℕ) (b : ℕ) → all_bytes bs ≡ true → one bs ≡ got b r → b < 256
 one_fits bs r b h e = let i = given b r (one_gives bs) e in let h₁ : all_bytes (b ∷ r) ≡ true = rw i at h in ltb-true b 256 (and_parts (ltb b 256) (all_bytes r) h₁).0
 
-pub on_sheet_in : (c r : ℕ) → c < 256 → r ≤ 65535 → on_sheet c r ≡ true
-on_sheet_in c r h k = and_from _ _ (lt-ltb c 256 h) (lt-ltb r 65536 (omega arith))
+pub on_sheet_in : (c r : ℕ) → c < 256 → r < 65536 → on_sheet c r ≡ true
+on_sheet_in c r h k = and_from _ _ (lt-ltb c 256 h) (lt-ltb r 65536 k)
 
-pub on_sheet_out : (c r : ℕ) → 65535 < r → on_sheet c r ≡ false
-on_sheet_out c r k = and_right _ _ (le-ltb r 65536 k)
+pub on_sheet_out : (c r : ℕ) → ¬ (r < 65536) → on_sheet c r ≡ false
+on_sheet_out c r k = and_right _ _ (le-ltb r 65536 (omega arith))
+
+-- what a conversion that was tried says of the number
+pub ok_is : {P : Type 0} {E : Type 0} {m n : ℕ} (r : Result ℕ E) → Some m ≡ result_ok r → OkIff r P n → P × (m ≡ n)
+ok_is (Ok k) e h = (h.0, same_Some _ _ e ∙ h.1)
+ok_is (Err x) e h = absurd (none-some _ (sym e))
+
+pub none_is : {P : Type 0} {E : Type 0} (n : ℕ) (r : Result ℕ E) → None ≡ result_ok r → OkIff r P n → ¬ P
+none_is n (Ok k) e h = absurd (none-some k e)
+none_is n (Err x) e h = h
+
+-- what is read only where something holds
+pub only_if : {A V : Type 0} (meaning : A → V) (b : Bool) (p : A × Bor (List ℕ)) → Reads meaning (only b (got (meaning p.0) p.1.now)) (then_some b p)
+unfolding only
+only_if meaning true p = refl
+only_if meaning false p = refl
 
 pub too_many : {A : Type 0} (n most : ℕ) (t : Bool) (g : Got A) → most < n → only (leb n most && t) g ≡ nothing
 unfolding only

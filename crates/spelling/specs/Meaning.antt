@@ -1,9 +1,11 @@
 -- Which plain value a value of the code stands for: places, boxes, references and constants. Assumes nothing: these are definitions.
-use Rattle.std.specs.Prelude.{ℕ, Bool, ◌&&◌, ◌==◌, nat_le}
+use Rattle.std.specs.Prelude.{◌≡◌, ℕ, Bool, ◌&&◌, ◌==◌, List, Option, MatchOption, nat_le}
+use Rattle.std.specs.Borrow.{Bor}
 use Rattle.plain.specs.Term as term
 use Rattle.plain.specs.Term.{or, Box, Ref}
 use Rattle.plain.specs.Sheet as sheet
-use Rattle.plain.specs.Read.{signed}
+use Rattle.plain.specs.Read.{Got, got, nothing}
+use Rattle.numbers.specs.Meaning.{num_of}
 use Rattle.spelling.specs.declared.place.Place.{Place}
 use Rattle.spelling.specs.declared.place.Area.{Area}
 use Rattle.spelling.specs.declared.place.Reference.{Reference}
@@ -14,15 +16,19 @@ abbrev pub place_of : Place → sheet.Place
 place_of p = record { col = p.col; row = p.row }
 
 abbrev pub box_of : Area → Box
-box_of a = record { left = a.left; top = a.top; right = a.right; bottom = a.bottom }
+box_of a = record { left = a.first.col; top = a.first.row; right = a.last.col; bottom = a.last.row }
 
 abbrev pub ref_of : Reference → Ref
-ref_of a = record { col = a.col; row = a.row; fix_col = a.fix_col; fix_row = a.fix_row }
+ref_of a = record { col = a.place.col; row = a.place.row; fix_col = a.fix_col; fix_row = a.fix_row }
 
 abbrev pub value_of : Constant → term.Value
-value_of (Number below n) = term.num (signed below n)
+value_of (Number n) = term.num (num_of n)
 value_of (Text b) = term.txt b.now
 value_of (Truth b) = term.truth b
+
+-- the code's reader tells what plain's does: what was read, by its meaning, and what is behind it; or nothing
+abbrev pub Reads : {A V : Type 0} → (A → V) → Got V → Option (A × Bor (List ℕ)) → Type 0
+Reads meaning g r = MatchOption r (g ≡ nothing) (λ p. g ≡ got (meaning p.0) p.1.now)
 
 -- what a name is made of
 abbrev pub name_byte : ℕ → Bool

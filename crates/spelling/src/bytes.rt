@@ -1,23 +1,19 @@
 // Bytes, flags, numbers of eight bytes, and texts with their length before them.
-ghost use Rattle.std.specs.Prelude.{◌≡◌, MatchOption};
-ghost use Rattle.plain.specs.Read.{got, nothing, one, read_counted, read_eight, read_flag};
+ghost use Rattle.plain.specs.Read.{one, read_counted, read_eight, read_flag};
+ghost use Rattle.spelling.specs.Meaning.{Reads};
 
 pub fn one(bytes: &[u8]) -> Option<(u8, &[u8])>
-    ensures { MatchOption result (one bytes.now ≡ nothing) (λ p. one bytes.now ≡ got p.0 p.1.now) }
+    ensures { Reads (λ b. b) (one bytes.now) result }
 {
-    let Some((first, rest)) = bytes.split_first() else {
-        return None;
-    };
+    let (first, rest) = bytes.split_first()?;
     Some((*first, rest))
 }
 
 pub fn flag(bytes: &[u8]) -> Option<(bool, &[u8])>
-    ensures { MatchOption result (read_flag bytes.now ≡ nothing) (λ p. read_flag bytes.now ≡ got p.0 p.1.now) }
+    ensures { Reads (λ b. b) (read_flag bytes.now) result }
 {
-    let Some((b, rest)) = one(bytes) else {
-        return None;
-    };
-    match b {
+    let (byte, rest) = one(bytes)?;
+    match byte {
         0 => Some((false, rest)),
         1 => Some((true, rest)),
         _ => None,
@@ -26,26 +22,17 @@ pub fn flag(bytes: &[u8]) -> Option<(bool, &[u8])>
 
 // A number of eight bytes, the highest first.
 pub fn number(bytes: &[u8]) -> Option<(u64, &[u8])>
-    ensures { MatchOption result (read_eight bytes.now ≡ nothing) (λ p. read_eight bytes.now ≡ got p.0 p.1.now) }
+    ensures { Reads (λ n. n) (read_eight bytes.now) result }
 {
-    let Some((head, rest)) = bytes.split_at_checked(8) else {
-        return None;
-    };
-    Some((
-        u64::from_be_bytes([
-            head[0], head[1], head[2], head[3], head[4], head[5], head[6], head[7],
-        ]),
-        rest,
-    ))
+    let (head, rest) = bytes.split_first_chunk::<8>()?;
+    Some((u64::from_be_bytes(*head), rest))
 }
 
 // Bytes with their count before them, at most so many.
 pub fn counted(bytes: &[u8], most: u64) -> Option<(&[u8], &[u8])>
-    ensures { MatchOption result (read_counted most bytes.now ≡ nothing) (λ p. read_counted most bytes.now ≡ got p.0.now p.1.now) }
+    ensures { Reads (λ b. b.now) (read_counted most bytes.now) result }
 {
-    let Some((n, rest)) = number(bytes) else {
-        return None;
-    };
+    let (n, rest) = number(bytes)?;
     if n > most {
         return None;
     }

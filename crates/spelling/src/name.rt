@@ -1,12 +1,11 @@
 // Names: 1 to 64 letters, digits and underscores.
-ghost use Rattle.std.specs.Prelude.{◌≡◌, MatchOption};
+ghost use Rattle.std.specs.Prelude.{◌≡◌, ◌↔◌, true, All, IsTrue};
 ghost use Rattle.plain.specs.Commands.{a_name};
-ghost use Rattle.plain.specs.Read.{got, nothing, read_name};
-ghost use Rattle.spelling.specs.Meaning.{name_byte};
+ghost use Rattle.plain.specs.Read.{read_name};
+ghost use Rattle.spelling.specs.Meaning.{Reads, name_byte};
 
 use crate::bytes::counted;
-
-const LONGEST: usize = 64;
+use crate::limits::LONGEST_NAME;
 
 fn is_name_byte(b: u8) -> bool
     ensures { result ≡ name_byte b }
@@ -14,29 +13,21 @@ fn is_name_byte(b: u8) -> bool
     matches!(b, b'a'..=b'z' | b'A'..=b'Z' | b'0'..=b'9' | b'_')
 }
 
+fn has_name_bytes(text: &[u8]) -> bool
+    ensures { IsTrue result ↔ All (λ b. name_byte b ≡ true) text.now }
+{
+    text.iter().all(|b| is_name_byte(*b))
+}
+
 pub fn is_name(text: &[u8]) -> bool
     ensures { result ≡ a_name text.now }
 {
-    if text.len() == 0 || text.len() > LONGEST {
-        return false;
-    }
-    for b in text {
-        if !is_name_byte(*b) {
-            return false;
-        }
-    }
-    true
+    !text.is_empty() && text.len() <= LONGEST_NAME && has_name_bytes(text)
 }
 
 pub fn name(bytes: &[u8]) -> Option<(&[u8], &[u8])>
-    ensures { MatchOption result (read_name bytes.now ≡ nothing) (λ p. read_name bytes.now ≡ got p.0.now p.1.now) }
+    ensures { Reads (λ b. b.now) (read_name bytes.now) result }
 {
-    let Some((text, rest)) = counted(bytes, LONGEST as u64) else {
-        return None;
-    };
-    if is_name(text) {
-        Some((text, rest))
-    } else {
-        None
-    }
+    let (text, rest) = counted(bytes, LONGEST_NAME as u64)?;
+    is_name(text).then_some((text, rest))
 }

@@ -1,102 +1,78 @@
 // Places on the sheet, the boxes between two of them, and references to a place.
-ghost use Rattle.std.specs.Prelude.{◌≡◌, MatchOption};
-ghost use Rattle.plain.specs.Read.{got, nothing, read_box, read_place, read_ref};
-ghost use Rattle.spelling.specs.Meaning.{box_of, place_of, ref_of};
+ghost use Rattle.std.specs.Prelude.{◌≡◌, suc, ◌-◌};
+ghost use Rattle.plain.specs.Read.{read_box, read_place, read_ref};
+ghost use Rattle.spelling.specs.Meaning.{Reads, box_of, place_of, ref_of};
 
 use crate::bytes::{flag, number, one};
 
-const LAST_ROW: u64 = 65535;
-
 // Columns and rows count from 0.
-#[derive(Clone, Copy, PartialEq, Eq, Debug)]
+#[derive(Clone, Copy, Debug, PartialEq, Eq)]
 pub struct Place {
     pub col: u8,
     pub row: u16,
 }
 
-// A box of places, both corners in it.
-#[derive(Clone, Copy)]
+// A box of places, from its first corner to its last, both in it.
+#[derive(Clone, Copy, Debug, PartialEq, Eq)]
 pub struct Area {
-    pub left: u8,
-    pub top: u16,
-    pub right: u8,
-    pub bottom: u16,
+    pub first: Place,
+    pub last: Place,
 }
 
 // A place that a formula refers to; what is fixed stays when the formula is copied.
-#[derive(Clone, Copy)]
+#[derive(Clone, Copy, Debug, PartialEq, Eq)]
 pub struct Reference {
-    pub col: u8,
-    pub row: u16,
+    pub place: Place,
     pub fix_col: bool,
     pub fix_row: bool,
 }
 
 impl Place {
     pub fn read(bytes: &[u8]) -> Option<(Place, &[u8])>
-        ensures { MatchOption result (read_place bytes.now ≡ nothing) (λ p. read_place bytes.now ≡ got (place_of p.0) p.1.now) }
+        ensures { Reads place_of (read_place bytes.now) result }
     {
-        let Some((col, rest)) = one(bytes) else {
-            return None;
-        };
-        let Some((row, rest)) = number(rest) else {
-            return None;
-        };
-        if row > LAST_ROW {
-            return None;
-        }
-        Some((
-            Place {
-                col,
-                row: row as u16,
-            },
-            rest,
-        ))
+        let (col, rest) = one(bytes)?;
+        let (row, rest) = number(rest)?;
+        let row = u16::try_from(row).ok()?;
+        Some((Place { col, row }, rest))
     }
 }
 
 impl Area {
-    pub fn read(bytes: &[u8]) -> Option<(Area, &[u8])>
-        ensures { MatchOption result (read_box bytes.now ≡ nothing) (λ p. read_box bytes.now ≡ got (box_of p.0) p.1.now) }
+    pub fn columns(self) -> u16
+        ensures { result ≡ suc (self.last.col - self.first.col) }
     {
-        let Some((first, rest)) = Place::read(bytes) else {
-            return None;
-        };
-        let Some((last, rest)) = Place::read(rest) else {
-            return None;
-        };
+        u16::from(self.last.col.saturating_sub(self.first.col)) + 1
+    }
+
+    pub fn rows(self) -> u32
+        ensures { result ≡ suc (self.last.row - self.first.row) }
+    {
+        u32::from(self.last.row.saturating_sub(self.first.row)) + 1
+    }
+
+    pub fn read(bytes: &[u8]) -> Option<(Area, &[u8])>
+        ensures { Reads box_of (read_box bytes.now) result }
+    {
+        let (first, rest) = Place::read(bytes)?;
+        let (last, rest) = Place::read(rest)?;
         if first.col > last.col || first.row > last.row {
             return None;
         }
-        Some((
-            Area {
-                left: first.col,
-                top: first.row,
-                right: last.col,
-                bottom: last.row,
-            },
-            rest,
-        ))
+        Some((Area { first, last }, rest))
     }
 }
 
 impl Reference {
     pub fn read(bytes: &[u8]) -> Option<(Reference, &[u8])>
-        ensures { MatchOption result (read_ref bytes.now ≡ nothing) (λ p. read_ref bytes.now ≡ got (ref_of p.0) p.1.now) }
+        ensures { Reads ref_of (read_ref bytes.now) result }
     {
-        let Some((place, rest)) = Place::read(bytes) else {
-            return None;
-        };
-        let Some((fix_col, rest)) = flag(rest) else {
-            return None;
-        };
-        let Some((fix_row, rest)) = flag(rest) else {
-            return None;
-        };
+        let (place, rest) = Place::read(bytes)?;
+        let (fix_col, rest) = flag(rest)?;
+        let (fix_row, rest) = flag(rest)?;
         Some((
             Reference {
-                col: place.col,
-                row: place.row,
+                place,
                 fix_col,
                 fix_row,
             },

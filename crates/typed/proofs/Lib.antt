@@ -1,1 +1,1 @@
-mod Sounding
+pub mod Sounding

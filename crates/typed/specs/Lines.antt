@@ -5,7 +5,7 @@ use Rattle.plain.specs.Commands as plain
 use Rattle.plain.specs.Promise.{Said}
 use Rattle.formulas.specs.Told.{told}
 use Rattle.formulas.specs.declared.command.Command as formulas
-use Rattle.formulas.specs.declared.command.Command.TheVariants.{Set, Wipe, Show, Rows, Written, Other}
+use Rattle.formulas.specs.declared.command.Command.TheVariants.{Set, Wipe, Show, Rows, Written}
 use Rattle.formulas.specs.declared.command.Refusal.{Refusal}
 use Rattle.formulas.specs.declared.command.Refusal.TheVariants.{Malformed, Unknown}
 use Rattle.typed.specs.declared.reading.Answer.{Answer}
@@ -31,9 +31,8 @@ abbrev pub answer_to_lem : Result formulas.Command Refusal → Option Answer
 answer_to_lem (Ok (Set p)) = Some Done
 answer_to_lem (Ok (Wipe a)) = Some Done
 answer_to_lem (Ok (Show p)) = Some (Values 1)
-answer_to_lem (Ok (Rows a)) = Some (Values (suc (a.right - a.left)))
+answer_to_lem (Ok (Rows a)) = Some (Values (suc (a.last.col - a.first.col)))
 answer_to_lem (Ok (Written p)) = Some Formula
-answer_to_lem (Ok Other) = Some Done
 answer_to_lem (Err Malformed) = None
 answer_to_lem (Err Unknown) = Some Done
 

@@ -1,23 +1,22 @@
 // The bytes of a command, as they are put together.
 ghost use Rattle.std.specs.Prelude.{◌≡◌, ◌≤◌};
-ghost use Rattle.typed.specs.Sizes.{size};
+ghost use Rattle.typed.specs.Sizes.{size, Grows};
 
-use crate::fault::Unreadable;
-use spelling::place::Reference;
-use std::alloc::Global;
+use numbers::millionths::Millionths;
+use spelling::kinds::{ConstantKind, FormulaKind};
+use spelling::place::{Place, Reference};
+use std::alloc::{AllocError, Global};
 
-// Want of memory is noted where it comes, and told when the bytes are asked for: until then no one needs to care.
-#[derive(Drop)]
+#[derive(Debug, Drop)]
 pub struct Code {
     bytes: Vec<u8>,
-    lost: bool,
 }
 
+// `Grows` stands in each contract here and of `Reader`: no type can tie what is there after a call to what was there before.
 impl Code {
     pub fn new(heap: Global) -> Code {
         Code {
             bytes: Vec::new(heap),
-            lost: false,
         }
     }
 
@@ -27,67 +26,73 @@ impl Code {
         self.bytes.len()
     }
 
-    pub fn put(&mut self, byte: u8)
-        ensures { size self.old ≤ size self.new }
+    pub fn put(&mut self, byte: u8) -> Result<(), AllocError>
+        ensures { Grows self.old self.new }
     {
-        if self.bytes.push(byte).is_err() {
-            self.lost = true;
-        }
+        self.bytes.push(byte)?;
+        Ok(())
     }
 
-    pub fn put_all(&mut self, bytes: &[u8])
-        ensures { size self.old ≤ size self.new }
+    pub fn put_all(&mut self, bytes: &[u8]) -> Result<(), AllocError>
+        ensures { Grows self.old self.new }
     {
-        if self.bytes.extend_from_slice(bytes).is_err() {
-            self.lost = true;
-        }
+        self.bytes.extend_from_slice(bytes)
     }
 
     // Puts a byte before what stands from there on.
-    pub fn put_before(&mut self, at: usize, byte: u8)
+    pub fn put_before(&mut self, at: usize, byte: u8) -> Result<(), AllocError>
         requires { at ≤ size self.old }
-        ensures { size self.old ≤ size self.new }
+        ensures { Grows self.old self.new }
     {
-        if self.bytes.insert(at, byte).is_err() {
-            self.lost = true;
-        }
+        self.bytes.insert(at, byte)?;
+        Ok(())
+    }
+
+    // What a constant of this kind begins with.
+    pub fn put_constant(&mut self, kind: ConstantKind) -> Result<(), AllocError>
+        ensures { Grows self.old self.new }
+    {
+        self.put_all(&[FormulaKind::Constant as u8, kind as u8])
     }
 
     // Eight bytes, the highest first.
-    pub fn put_eight(&mut self, n: u64)
-        ensures { size self.old ≤ size self.new }
+    pub fn put_eight(&mut self, n: u64) -> Result<(), AllocError>
+        ensures { Grows self.old self.new }
     {
-        self.put_all(&n.to_be_bytes());
+        self.put_all(&n.to_be_bytes())
     }
 
-    pub fn put_counted(&mut self, bytes: &[u8])
-        ensures { size self.old ≤ size self.new }
+    pub fn put_number(&mut self, number: Millionths) -> Result<(), AllocError>
+        ensures { Grows self.old self.new }
     {
-        self.put_eight(bytes.len() as u64);
-        self.put_all(bytes);
+        let (below_zero, millionths) = number.sign();
+        self.put_constant(ConstantKind::Number)?;
+        self.put(u8::from(below_zero))?;
+        self.put_eight(millionths)
     }
 
-    pub fn put_place(&mut self, col: u8, row: u16)
-        ensures { size self.old ≤ size self.new }
+    pub fn put_counted(&mut self, bytes: &[u8]) -> Result<(), AllocError>
+        ensures { Grows self.old self.new }
     {
-        self.put(col);
-        self.put_eight(u64::from(row));
+        self.put_eight(bytes.len() as u64)?;
+        self.put_all(bytes)
     }
 
-    pub fn put_reference(&mut self, a: Reference)
-        ensures { size self.old ≤ size self.new }
+    pub fn put_place(&mut self, at: Place) -> Result<(), AllocError>
+        ensures { Grows self.old self.new }
     {
-        self.put_place(a.col, a.row);
-        self.put(u8::from(a.fix_col));
-        self.put(u8::from(a.fix_row));
+        self.put(at.col)?;
+        self.put_eight(u64::from(at.row))
     }
 
-    pub fn finish(self) -> Result<Vec<u8>, Unreadable> {
-        let Code { bytes, lost } = self;
-        if lost {
-            Err(Unreadable::Memory)
-        } else {
-            Ok(bytes)
-        }
+    pub fn put_reference(&mut self, to: Reference) -> Result<(), AllocError>
+        ensures { Grows self.old self.new }
+    {
+        self.put_place(to.place)?;
+        self.put_all(&[u8::from(to.fix_col), u8::from(to.fix_row)])
+    }
+
+    pub fn into_bytes(self) -> Vec<u8> {
+        self.bytes
     }
 }

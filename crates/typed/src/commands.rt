@@ -1,91 +1,89 @@
-// What stands behind a verb.
-use crate::code::Code;
+// What stands behind the first word of a command.
 use crate::fault::{Expected, Unreadable};
-use crate::operands::{read_name, read_target};
-use crate::places::{area, column, place, row, with_digits};
-use crate::scan::{Cursor, Word};
-use crate::terms::read_formula;
-use crate::words::{AXES, Part, place_among};
+use crate::places::{DECIMALS, LETTERS, area, place};
+use crate::reader::Reader;
+use crate::scan::Word;
+use spelling::kinds::{Axis, CommandKind, named};
 
-const ROWS: u64 = 65536;
-
-const COLUMNS: u64 = 256;
-
-// The row or the column at which lines are put in or taken out, from 0.
-fn line_number(rows: bool, word: Word) -> Result<u64, Unreadable> {
-    if rows {
-        return match row(word.bytes) {
-            Some(at) => Ok(u64::from(at)),
-            None => Err(Unreadable::Lacks(Expected::Row, word.column)),
-        };
-    }
-    match column(word.bytes) {
-        Some(at) => Ok(u64::from(at)),
-        None => Err(Unreadable::Lacks(Expected::Column, word.column)),
-    }
-}
-
-fn how_many(rows: bool, word: Word) -> Result<u64, Unreadable> {
-    let all = if rows { ROWS } else { COLUMNS };
-    match with_digits(0, word.bytes, 10, b'0') {
-        Some(many) if 1 <= many && many <= all => Ok(many),
-        _ => Err(Unreadable::Lacks(Expected::HowMany, word.column)),
-    }
-}
-
-// Rows or columns: from which on, and how many.
-fn read_lines(cursor: &mut Cursor, code: &mut Code) -> Result<(), Unreadable> {
-    let word = cursor.word();
-    let Some(axis) = place_among(&AXES, word.bytes) else {
-        return Err(Unreadable::Lacks(Expected::RowsOrColumns, word.column));
+// The row or the column that a word names, from 0.
+fn line(axis: Axis, word: Word) -> Result<u64, Unreadable> {
+    let (line, expected) = match axis {
+        Axis::Columns => (
+            LETTERS.line::<u8>(word.bytes).map(u64::from),
+            Expected::Column,
+        ),
+        Axis::Rows => (
+            DECIMALS.line::<u16>(word.bytes).map(u64::from),
+            Expected::Row,
+        ),
     };
-    let at = line_number(axis == 1, cursor.word())?;
-    let many = how_many(axis == 1, cursor.word())?;
-    code.put(axis);
-    code.put_eight(at);
-    code.put_eight(many);
-    Ok(())
+    line.ok_or(word.lacks(expected))
 }
 
-fn read_part(cursor: &mut Cursor, code: &mut Code, part: Part) -> Result<(), Unreadable> {
-    match part {
-        Part::Place => {
-            let found = place(cursor.word())?;
-            code.put_place(found.col, found.row);
-            Ok(())
-        }
-        Part::Area => {
-            let found = area(cursor)?;
-            code.put_place(found.left, found.top);
-            code.put_place(found.right, found.bottom);
-            Ok(())
-        }
-        Part::Formula => read_formula(cursor, code),
-        Part::Name => read_name(cursor, code),
-        Part::Target => read_target(cursor, code),
-        Part::Lines => read_lines(cursor, code),
-    }
+fn how_many(axis: Axis, word: Word) -> Result<u64, Unreadable> {
+    DECIMALS
+        .with_digits(0, word.bytes)
+        .filter(|many| 1 <= *many && *many <= axis.lines())
+        .ok_or(word.lacks(Expected::HowMany))
 }
 
-// Reads all parts up to the end of the line, and gives back the column at which the last of them began.
-pub fn read_parts(
-    cursor: &mut Cursor,
-    code: &mut Code,
-    parts: &[Part],
-) -> Result<usize, Unreadable> {
-    let mut last = cursor.column;
-    for part in parts {
-        cursor.skip_blanks();
-        last = cursor.column;
-        read_part(cursor, code, *part)?;
+impl<'a> Reader<'a> {
+    // Rows or columns: from which on, and how many.
+    fn read_lines(&mut self) -> Result<(), Unreadable> {
+        let word = self.cursor.word();
+        let axis: Axis = named(word.bytes).ok_or(word.lacks(Expected::RowsOrColumns))?;
+        let at = line(axis, self.cursor.word())?;
+        let many = how_many(axis, self.cursor.word())?;
+        self.code.put(axis as u8)?;
+        self.code.put_eight(at)?;
+        self.code.put_eight(many)?;
+        Ok(())
     }
-    if cursor.ends() {
-        return Ok(last);
+
+    fn read_place(&mut self) -> Result<(), Unreadable> {
+        self.code.put_place(place(self.cursor.word())?)?;
+        Ok(())
     }
-    let expected = if let Some(Part::Formula) = parts.last() {
-        Expected::OperatorOrEnd
-    } else {
-        Expected::End
-    };
-    Err(Unreadable::Lacks(expected, cursor.column))
+
+    fn read_area(&mut self) -> Result<(), Unreadable> {
+        let found = area(&mut self.cursor)?;
+        self.code.put_place(found.first)?;
+        self.code.put_place(found.last)?;
+        Ok(())
+    }
+
+    // What stands between the first word and the last part of a command.
+    fn read_first(&mut self, kind: CommandKind) -> Result<(), Unreadable> {
+        match kind {
+            CommandKind::Set => self.read_place(),
+            CommandKind::Name => self.read_name(),
+            CommandKind::Copy => self.read_area(),
+            _ => Ok(()),
+        }
+    }
+
+    fn read_last(&mut self, kind: CommandKind) -> Result<(), Unreadable> {
+        match kind {
+            CommandKind::Set => self.read_formula(),
+            CommandKind::Name => self.read_target(),
+            CommandKind::Unname => self.read_name(),
+            CommandKind::Wipe | CommandKind::Rows => self.read_area(),
+            CommandKind::Show | CommandKind::Written | CommandKind::Copy => self.read_place(),
+            CommandKind::Insert | CommandKind::Remove => self.read_lines(),
+        }
+    }
+
+    // Reads a command from behind its first word up to the end of the line, and gives back the column at which the last part of it began.
+    pub fn read_command(&mut self, kind: CommandKind) -> Result<usize, Unreadable> {
+        self.code.put(kind as u8)?;
+        self.read_first(kind)?;
+        self.cursor.skip_blanks();
+        let last = self.cursor.column;
+        self.read_last(kind)?;
+        self.cursor.must_end(match kind {
+            CommandKind::Set => Expected::OperatorOrEnd,
+            _ => Expected::End,
+        })?;
+        Ok(last)
+    }
 }

@@ -1,114 +1,93 @@
 // Numbers and texts, from the way they are typed to their bytes.
-ghost use Rattle.std.specs.Prelude.{◌≤◌};
-ghost use Rattle.typed.specs.Sizes.{size};
+ghost use Rattle.typed.specs.Sizes.{Grows};
 
-use crate::code::Code;
 use crate::fault::{Expected, Unreadable};
-use crate::places::with_digits;
-use crate::scan::{Cursor, Kind};
+use crate::places::DECIMALS;
+use crate::reader::Reader;
+use crate::scan::Cursor;
+use numbers::millionths::Millionths;
+use spelling::kinds::ConstantKind;
+use spelling::limits::LONGEST_TEXT;
 
-const MOST_MILLIONTHS: u64 = 4611686018427387903;
-
-const LONGEST_TEXT: u8 = 255;
-
-// What a constant is spelled with first, and then a number or a text.
-const CONSTANT: u8 = 0;
-
-const NUMBER: u8 = 1;
-
-const TEXT: u8 = 2;
-
-// So many whole ones and these decimals, in millionths.
+// So many whole ones and these decimals, in millionths, if it is not too large to count.
 fn millionths(whole: &[u8], decimals: &[u8]) -> Option<u64> {
-    let mut n = with_digits(with_digits(0, whole, 10, b'0')?, decimals, 10, b'0')?;
-    for _ in decimals.len()..6 {
-        n = n.checked_mul(10)?;
-    }
-    if n <= MOST_MILLIONTHS { Some(n) } else { None }
-}
-
-// The digits behind a point, if one comes; else none.
-fn decimals<'a>(cursor: &mut Cursor<'a>) -> Result<&'a [u8], Unreadable> {
-    if !cursor.takes(b'.') {
-        return Ok(&[]);
-    }
-    let column = cursor.column;
-    let digits = cursor.run(Kind::Digit);
-    if digits.is_empty() || digits.len() > 6 {
-        return Err(Unreadable::Lacks(Expected::Decimals, column));
-    }
-    Ok(digits)
-}
-
-// A number, whose sign may come first. Below zero, one less is spelled.
-pub fn read_number(cursor: &mut Cursor, code: &mut Code) -> Result<(), Unreadable>
-    ensures { size code.old ≤ size code.new }
-{
-    let column = cursor.column;
-    let minus = cursor.takes(b'-');
-    let whole = cursor.run(Kind::Digit);
-    let Some(n) = millionths(whole, decimals(cursor)?) else {
-        return Err(Unreadable::Lacks(Expected::SmallerNumber, column));
-    };
-    let below_zero = minus && n > 0;
-    code.put_all(&[CONSTANT, NUMBER, u8::from(below_zero)]);
-    code.put_eight(if below_zero { n - 1 } else { n });
-    Ok(())
+    let digits = DECIMALS.with_digits(DECIMALS.with_digits(0, whole)?, decimals)?;
+    (decimals.len()..6).try_fold(digits, |n, _| n.checked_mul(10))
 }
 
 fn hex_digit(b: u8) -> Option<u8> {
-    match b {
-        b'0'..=b'9' => Some(b - b'0'),
-        b'A'..=b'F' => Some(b - b'A' + 10),
-        b'a'..=b'f' => Some(b - b'a' + 10),
-        _ => None,
-    }
+    u8::try_from(char::from(b).to_digit(16)?).ok()
 }
 
-// The byte that is meant by what stands behind a backslash.
-fn escape(cursor: &mut Cursor) -> Option<u8> {
-    match cursor.byte() {
-        b'\\' => Some(b'\\'),
-        b'x' => {
-            let high = hex_digit(cursor.byte())?;
-            let low = hex_digit(cursor.byte())?;
-            Some(high << 4 | low)
+impl<'a> Cursor<'a> {
+    // The digits behind a point, if one comes; else none.
+    fn decimals(&mut self) -> Result<&'a [u8], Unreadable> {
+        if !self.takes(b'.') {
+            return Ok(&[]);
         }
-        _ => None,
+        let refused = self.lacks(Expected::Decimals);
+        Some(self.run(u8::is_ascii_digit))
+            .filter(|digits| matches!(digits.len(), 1..=6))
+            .ok_or(refused)
+    }
+
+    // The byte that is meant by what stands behind a backslash.
+    fn escape(&mut self) -> Option<u8> {
+        match self.byte()? {
+            b'\\' => Some(b'\\'),
+            b'x' => {
+                let high = hex_digit(self.byte()?)?;
+                let low = hex_digit(self.byte()?)?;
+                Some(high << 4 | low)
+            }
+            _ => None,
+        }
+    }
+
+    // The next byte of a text, or none at its closing quote.
+    fn text_byte(&mut self) -> Result<Option<u8>, Unreadable> {
+        let at = *self;
+        match self.byte() {
+            Some(b'\'') => Ok(self.takes(b'\'').then_some(b'\'')),
+            Some(b'\\') => Ok(Some(self.escape().ok_or(at.lacks(Expected::Escape))?)),
+            // no text has a 0 that is not escaped
+            None | Some(0) => Err(at.lacks(Expected::ClosingQuote)),
+            plain => Ok(plain),
+        }
     }
 }
 
-// The next byte of a text, or none at its closing quote.
-fn text_byte(cursor: &mut Cursor) -> Result<Option<u8>, Unreadable> {
-    let column = cursor.column;
-    match cursor.byte() {
-        0 => Err(Unreadable::Lacks(Expected::ClosingQuote, column)),
-        b'\'' => Ok(if cursor.takes(b'\'') {
-            Some(b'\'')
-        } else {
-            None
-        }),
-        b'\\' => match escape(cursor) {
-            None => Err(Unreadable::Lacks(Expected::Escape, column)),
-            meant => Ok(meant),
-        },
-        plain => Ok(Some(plain)),
+impl<'a> Reader<'a> {
+    // A number, whose sign may come first.
+    pub fn read_number(&mut self) -> Result<(), Unreadable>
+        ensures { Grows self.old.code self.new.code }
+    {
+        let refused = self.cursor.lacks(Expected::SmallerNumber);
+        let minus = self.cursor.takes(b'-');
+        let whole = self.cursor.run(u8::is_ascii_digit);
+        let n = millionths(whole, self.cursor.decimals()?).ok_or(refused)?;
+        let below_zero = minus && n > 0;
+        let number = Millionths::from_sign(below_zero, n - u64::from(below_zero)).ok_or(refused)?;
+        self.code.put_number(number)?;
+        Ok(())
     }
-}
 
-// A text from behind its opening quote: its length is spelled before it, and fits the last of eight bytes.
-pub fn read_text(cursor: &mut Cursor, code: &mut Code) -> Result<(), Unreadable>
-    ensures { size code.old ≤ size code.new }
-{
-    let column = cursor.column;
-    code.put_all(&[CONSTANT, TEXT, 0, 0, 0, 0, 0, 0, 0]);
-    let start = code.len();
-    for length in 0..=LONGEST_TEXT {
-        let Some(b) = text_byte(cursor)? else {
-            code.put_before(start, length);
-            return Ok(());
-        };
-        code.put(b);
+    // A text in quotes: its length is spelled before it, and fits the last of eight bytes.
+    pub fn read_text(&mut self) -> Result<(), Unreadable>
+        ensures { Grows self.old.code self.new.code }
+    {
+        let _quote = self.cursor.byte();
+        let refused = self.cursor.lacks(Expected::ShorterText);
+        self.code.put_constant(ConstantKind::Text)?;
+        self.code.put_all(&[0; 7])?;
+        let start = self.code.len();
+        for length in 0..=LONGEST_TEXT as u8 {
+            let Some(b) = self.cursor.text_byte()? else {
+                self.code.put_before(start, length)?;
+                return Ok(());
+            };
+            self.code.put(b)?;
+        }
+        Err(refused)
     }
-    Err(Unreadable::Lacks(Expected::ShorterText, column))
 }

@@ -1,7 +1,11 @@
 // What is wrong with a line: what was expected, and at which column.
+ghost use Rattle.std.specs.Prelude.{◌≡◌};
+ghost use Rattle.typed.specs.declared.fault.Unreadable.TheVariants.{Memory};
+
+use std::alloc::AllocError;
 use std::fmt;
 
-#[derive(Clone, Copy)]
+#[derive(Clone, Copy, Debug, PartialEq, Eq)]
 pub enum Expected {
     Command,
     Place,
@@ -26,9 +30,9 @@ pub enum Expected {
     FewerPlaces,
 }
 
-impl Expected {
-    fn words(self) -> &'static str {
-        match self {
+impl fmt::Display for Expected {
+    fn fmt<W: fmt::Write>(&self, f: &mut fmt::Formatter<W>) -> fmt::Result {
+        f.write_str(match self {
             Expected::Command => "a command such as set, show or help",
             Expected::Place => "a place such as B7, from A1 to IV65536",
             Expected::Name => "a name such as price, of at most 64 letters, digits and _",
@@ -50,12 +54,12 @@ impl Expected {
             Expected::ShorterFormula => "a shorter formula, of at most 1024 bytes",
             Expected::ShallowerFormula => "a formula less deep, of at most 32 levels",
             Expected::FewerPlaces => "no more than 4096 places",
-        }
+        })
     }
 }
 
 // Why a line is not read.
-#[derive(Clone, Copy)]
+#[derive(Clone, Copy, Debug, PartialEq, Eq)]
 pub enum Unreadable {
     // What was expected, and at which column: they count bytes, from 1.
     Lacks(Expected, usize),
@@ -63,12 +67,19 @@ pub enum Unreadable {
     Memory,
 }
 
+impl From<AllocError> for Unreadable {
+    ghost from_gives = { λ _ e. e ≡ Memory };
+
+    fn from(_: AllocError) -> Self {
+        Self::Memory
+    }
+}
+
 impl fmt::Display for Unreadable {
     fn fmt<W: fmt::Write>(&self, f: &mut fmt::Formatter<W>) -> fmt::Result {
         match self {
             Unreadable::Lacks(expected, column) => {
-                let words = expected.words();
-                write!(f, "expected {words} at column {column}")
+                write!(f, "expected {expected} at column {column}")
             }
             Unreadable::Memory => f.write_str("no memory is left"),
         }

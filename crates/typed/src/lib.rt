@@ -7,6 +7,7 @@ mod constants;
 pub mod fault;
 mod operands;
 mod places;
+mod reader;
 pub mod reading;
 mod scan;
 mod terms;

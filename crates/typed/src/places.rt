@@ -1,38 +1,50 @@
 // Places as a person types them: letters for the column, and the row from 1; a $ before either fixes it.
 use crate::fault::{Expected, Unreadable};
-use crate::scan::{Cursor, Kind, Word};
+use crate::scan::{Cursor, Word};
 use spelling::place::{Area, Place, Reference};
+use std::num::TryFromIntError;
 
-// Letters are digits by how far they are behind this, which is one before A.
-const BEFORE_A: u8 = b'@';
+// How numbers are written: how many digits there are, and the byte for zero.
+#[derive(Clone, Copy, Debug, PartialEq, Eq)]
+pub struct Numerals {
+    base: u64,
+    zero: u8,
+}
 
-// The number with these digits behind those of n, in this base, if it is not too large. A digit counts from the byte for zero; a byte that is
-// further than the base is none.
-pub fn with_digits(mut n: u64, digits: &[u8], base: u64, zero: u8) -> Option<u64> {
-    for b in digits {
-        let digit = u64::from(b.to_ascii_uppercase().wrapping_sub(zero));
-        if digit > base {
-            return None;
-        }
-        n = n.checked_mul(base)?.checked_add(digit)?;
+pub const DECIMALS: Numerals = Numerals {
+    base: 10,
+    zero: b'0',
+};
+
+// Letters are digits by how far they are behind @, which is one before A.
+pub const LETTERS: Numerals = Numerals {
+    base: 26,
+    zero: b'@',
+};
+
+impl Numerals {
+    // What the byte counts for. A byte that is further than the base is no digit.
+    fn digit(self, b: u8) -> Option<u64> {
+        Some(u64::from(b.to_ascii_uppercase().wrapping_sub(self.zero))).filter(|n| *n <= self.base)
     }
-    Some(n)
-}
 
-// The row with this number, from 0.
-pub fn row(digits: &[u8]) -> Option<u16> {
-    let n = with_digits(0, digits, 10, b'0')?;
-    u16::try_from(n.checked_sub(1)?).ok()
-}
+    // The number with these digits behind those of n, if it is not too large.
+    pub fn with_digits(self, n: u64, digits: &[u8]) -> Option<u64> {
+        digits.iter().try_fold(
+            n,
+            |n, b| n.checked_mul(self.base)?.checked_add(self.digit(*b)?),
+        )
+    }
 
-// The column with these letters, from 0.
-pub fn column(letters: &[u8]) -> Option<u8> {
-    let n = with_digits(0, letters, 26, BEFORE_A)?;
-    u8::try_from(n.checked_sub(1)?).ok()
+    // The row or the column, from 0, that these digits count from 1.
+    pub fn line<T: TryFrom<u64, Error = TryFromIntError>>(self, digits: &[u8]) -> Option<T> {
+        let n = self.with_digits(0, digits)?;
+        T::try_from(n.checked_sub(1)?).ok()
+    }
 }
 
 // A word that has the shape of a place, on the sheet or not: one or two letters and then digits.
-#[derive(Clone, Copy)]
+#[derive(Clone, Copy, Debug, PartialEq, Eq)]
 struct Shape<'a> {
     fix_col: bool,
     letters: &'a [u8],
@@ -43,9 +55,9 @@ struct Shape<'a> {
 fn shaped(word: &[u8]) -> Option<Shape> {
     let mut cursor = Cursor::new(word);
     let fix_col = cursor.takes(b'$');
-    let letters = cursor.run(Kind::Letter);
+    let letters = cursor.run(u8::is_ascii_alphabetic);
     let fix_row = cursor.takes(b'$');
-    let digits = cursor.run(Kind::Digit);
+    let digits = cursor.run(u8::is_ascii_digit);
     if letters.is_empty() || letters.len() > 2 || digits.is_empty() || !cursor.ends() {
         return None;
     }
@@ -63,11 +75,11 @@ pub fn has_shape_of_place(word: &[u8]) -> bool {
 
 fn as_reference(word: &[u8]) -> Option<Reference> {
     let shape = shaped(word)?;
-    let col = column(shape.letters)?;
-    let row = row(shape.digits)?;
     Some(Reference {
-        col,
-        row,
+        place: Place {
+            col: LETTERS.line(shape.letters)?,
+            row: DECIMALS.line(shape.digits)?,
+        },
         fix_col: shape.fix_col,
         fix_row: shape.fix_row,
     })
@@ -75,25 +87,15 @@ fn as_reference(word: &[u8]) -> Option<Reference> {
 
 // A place as a formula has it.
 pub fn reference(word: Word) -> Result<Reference, Unreadable> {
-    match as_reference(word.bytes) {
-        Some(found) => Ok(found),
-        None => Err(Unreadable::Lacks(Expected::Place, word.column)),
-    }
+    as_reference(word.bytes).ok_or(word.lacks(Expected::Place))
 }
 
 // A place as a command has it, which nothing can fix.
 pub fn place(word: Word) -> Result<Place, Unreadable> {
-    match as_reference(word.bytes) {
-        Some(
-            Reference {
-                col,
-                row,
-                fix_col: false,
-                fix_row: false,
-            },
-        ) => Ok(Place { col, row }),
-        _ => Err(Unreadable::Lacks(Expected::Place, word.column)),
-    }
+    as_reference(word.bytes)
+        .filter(|to| !to.fix_col && !to.fix_row)
+        .map(|to| to.place)
+        .ok_or(word.lacks(Expected::Place))
 }
 
 // A place, or two opposite corners of a box.
@@ -105,9 +107,13 @@ pub fn area(cursor: &mut Cursor) -> Result<Area, Unreadable> {
         a
     };
     Ok(Area {
-        left: a.col.min(b.col),
-        top: a.row.min(b.row),
-        right: a.col.max(b.col),
-        bottom: a.row.max(b.row),
+        first: Place {
+            col: a.col.min(b.col),
+            row: a.row.min(b.row),
+        },
+        last: Place {
+            col: a.col.max(b.col),
+            row: a.row.max(b.row),
+        },
     })
 }

@@ -2,16 +2,15 @@
 ghost use Rattle.std.specs.Prelude.{◌≡◌, IfOk};
 ghost use Rattle.typed.specs.Lines.{Sure, answer_to_lem};
 
-use crate::code::Code;
-use crate::commands::read_parts;
 use crate::fault::{Expected, Unreadable};
-use crate::scan::Cursor;
-use crate::words::{Verb, verb_of};
+use crate::reader::Reader;
+use crate::scan::{Cursor, Word};
 use formulas::command::{Command, Refusal, read_command};
+use spelling::kinds::{CommandKind, named};
 use std::alloc::Global;
 
 // What the rows are that a command is answered with.
-#[derive(Clone, Copy)]
+#[derive(Clone, Copy, Debug, PartialEq, Eq)]
 pub enum Answer {
     // None.
     Done,
@@ -21,7 +20,7 @@ pub enum Answer {
     Formula,
 }
 
-#[derive(Drop)]
+#[derive(Debug, PartialEq, Eq, Drop)]
 pub enum Line {
     // Blank, or a remark.
     Nothing,
@@ -37,32 +36,35 @@ fn answer_to(read: Result<Command, Refusal>) -> Option<Answer>
     match read {
         Ok(Command::Show(_)) => Some(Answer::Values { wide: 1 }),
         Ok(Command::Rows(area)) => Some(Answer::Values {
-            wide: u16::from(area.right.saturating_sub(area.left)) + 1,
+            wide: area.columns(),
         }),
         Ok(Command::Written(_)) => Some(Answer::Formula),
-        Ok(Command::Set(_) | Command::Wipe(_) | Command::Other) => Some(Answer::Done),
-        Err(Refusal::Unknown) => Some(Answer::Done),
+        Ok(Command::Set(_) | Command::Wipe(_)) | Err(Refusal::Unknown) => Some(Answer::Done),
         Err(Refusal::Malformed) => None,
     }
 }
 
 // What is expected of a command whose bytes are none, though each of its parts can be read: it is too large as a whole.
-fn instead(verb: Verb) -> Expected {
-    match verb {
-        Verb::Set => Expected::ShallowerFormula,
-        Verb::Rows => Expected::FewerPlaces,
+fn instead(kind: CommandKind) -> Expected {
+    match kind {
+        CommandKind::Set => Expected::ShallowerFormula,
+        CommandKind::Rows => Expected::FewerPlaces,
         _ => Expected::Command,
     }
 }
 
-// Whatever was read, no bytes go out that are no command.
-fn sealed(bytes: Vec<u8>, verb: Verb, column: usize) -> Result<Line, Unreadable>
+// The command whose first word it is, from behind it to the end of the line. Whatever was read, no bytes go out that are no command.
+#[tactic(auto, using(crate::proofs::Sounding::sound))]
+fn command(heap: Global, cursor: Cursor, word: Word) -> Result<Line, Unreadable>
     ensures { IfOk result Sure }
 {
-    match answer_to(read_command(bytes.as_slice())) {
-        Some(answer) => Ok(Line::Command { bytes, answer }),
-        None => Err(Unreadable::Lacks(instead(verb), column)),
-    }
+    let kind: CommandKind = named(word.bytes).ok_or(word.lacks(Expected::Command))?;
+    let mut reader = Reader::new(heap, cursor);
+    let last = reader.read_command(kind)?;
+    let bytes = reader.code.into_bytes();
+    let refused = Unreadable::Lacks(instead(kind), last);
+    let answer = answer_to(read_command(bytes.as_slice())).ok_or(refused)?;
+    Ok(Line::Command { bytes, answer })
 }
 
 // Reads a line. The bytes of a command that comes out spell one that fits.
@@ -70,19 +72,19 @@ pub fn read_line(heap: Global, line: &[u8]) -> Result<Line, Unreadable>
     ensures { IfOk result Sure }
 {
     let mut cursor = Cursor::new(line);
-    if cursor.ends() || cursor.ahead(0) == b'#' {
+    if cursor.ends() || cursor.takes(b'#') {
         return Ok(Line::Nothing);
     }
     let word = cursor.word();
-    let Some((verb, parts)) = verb_of(word.bytes) else {
-        return Err(Unreadable::Lacks(Expected::Command, word.column));
-    };
-    let mut code = Code::new(heap);
-    code.put(verb as u8);
-    let last = read_parts(&mut cursor, &mut code, parts)?;
-    match verb {
-        Verb::Help => Ok(Line::Help),
-        Verb::Quit => Ok(Line::Quit),
-        _ => sealed(code.finish()?, verb, last),
+    match word.bytes {
+        b"help" => {
+            cursor.must_end(Expected::End)?;
+            Ok(Line::Help)
+        }
+        b"quit" => {
+            cursor.must_end(Expected::End)?;
+            Ok(Line::Quit)
+        }
+        _ => command(heap, cursor, word),
     }
 }

@@ -1,47 +1,27 @@
 // Going through a line from its front: words, runs of bytes of one kind, and marks.
-ghost use Rattle.std.specs.Prelude.{◌≤◌, length};
+use crate::fault::{Expected, Unreadable};
 
-#[derive(Clone, Copy)]
-pub enum Kind {
-    Blank,
-    Letter,
-    Digit,
-    // What words are made of: letters, digits, _ and the $ of a fixed place.
-    Word,
-}
-
-impl Kind {
-    fn has(self, b: u8) -> bool {
-        match self {
-            Kind::Blank => b.is_ascii_whitespace(),
-            Kind::Letter => b.is_ascii_alphabetic(),
-            Kind::Digit => b.is_ascii_digit(),
-            Kind::Word => b.is_ascii_alphanumeric() || b == b'_' || b == b'$',
-        }
-    }
-
-    // How many bytes at the front are of this kind.
-    pub fn run(self, bytes: &[u8]) -> usize
-        ensures { result ≤ length bytes.now }
-    {
-        for (i, b) in bytes.iter().enumerate() {
-            if !self.has(*b) {
-                return i;
-            }
-        }
-        bytes.len()
-    }
+// What words are made of: letters, digits, _ and the $ of a fixed place.
+fn is_word_byte(b: &u8) -> bool {
+    b.is_ascii_alphanumeric() || *b == b'_' || *b == b'$'
 }
 
 // A word, perhaps of no bytes, and the column at which it stands.
-#[derive(Clone, Copy)]
+#[derive(Clone, Copy, Debug, PartialEq, Eq)]
 pub struct Word<'a> {
     pub bytes: &'a [u8],
     pub column: usize,
 }
 
+impl<'a> Word<'a> {
+    // Why the word is refused: what was expected in its place.
+    pub fn lacks(self, expected: Expected) -> Unreadable {
+        Unreadable::Lacks(expected, self.column)
+    }
+}
+
 // What of a line is still to be read, and the column at which it begins.
-#[derive(Drop)]
+#[derive(Clone, Copy, Debug, PartialEq, Eq)]
 pub struct Cursor<'a> {
     rest: &'a [u8],
     pub column: usize,
@@ -55,22 +35,34 @@ impl<'a> Cursor<'a> {
         }
     }
 
-    // The byte so many behind the next; behind the end 0, which no line has.
-    pub fn ahead(&self, by: usize) -> u8 {
-        self.rest.get(by).copied().unwrap_or(0)
+    // Why the line is refused: what was expected at the next byte.
+    pub fn lacks(&self, expected: Expected) -> Unreadable {
+        Unreadable::Lacks(expected, self.column)
     }
 
-    // Takes what is of this kind from the front.
-    pub fn run(&mut self, kind: Kind) -> &'a [u8] {
-        let n = kind.run(self.rest);
-        let (run, rest) = self.rest.split_at(n);
+    pub fn rest(&self) -> &'a [u8] {
+        self.rest
+    }
+
+    // Takes so many bytes, or all that are left.
+    pub fn take(&mut self, n: usize) -> &'a [u8] {
+        let n = n.min(self.rest.len());
+        let (front, rest) = self.rest.split_at(n);
         self.rest = rest;
         self.column = self.column.wrapping_add(n);
-        run
+        front
+    }
+
+    // Takes the bytes at the front that are such.
+    pub fn run<F: Fn(&u8) -> bool>(&mut self, is_such: F) -> &'a [u8]
+        requires { F.IsAlwaysCallable is_such }
+    {
+        let n = self.rest.iter().take_while(|b| is_such(*b)).count();
+        self.take(n)
     }
 
     pub fn skip_blanks(&mut self) {
-        let _ = self.run(Kind::Blank);
+        let _ = self.run(u8::is_ascii_whitespace);
     }
 
     // Takes the word that comes next behind blanks.
@@ -78,24 +70,22 @@ impl<'a> Cursor<'a> {
         self.skip_blanks();
         let column = self.column;
         Word {
-            bytes: self.run(Kind::Word),
+            bytes: self.run(is_word_byte),
             column,
         }
     }
 
-    // Takes the next byte; at the end it is 0.
-    pub fn byte(&mut self) -> u8 {
-        let Some((first, rest)) = self.rest.split_first() else {
-            return 0;
-        };
+    // Takes the next byte.
+    pub fn byte(&mut self) -> Option<u8> {
+        let (first, rest) = self.rest.split_first()?;
         self.rest = rest;
         self.column = self.column.wrapping_add(1);
-        *first
+        Some(*first)
     }
 
     // Takes the next byte if it is this one, and says whether it was.
     pub fn takes(&mut self, mark: u8) -> bool {
-        self.ahead(0) == mark && self.byte() == mark
+        self.rest.first() == Some(&mark) && self.byte().is_some()
     }
 
     // The same behind blanks.
@@ -108,5 +98,14 @@ impl<'a> Cursor<'a> {
     pub fn ends(&mut self) -> bool {
         self.skip_blanks();
         self.rest.is_empty()
+    }
+
+    // Refuses a line that goes on.
+    pub fn must_end(&mut self, expected: Expected) -> Result<(), Unreadable> {
+        if self.ends() {
+            Ok(())
+        } else {
+            Err(self.lacks(expected))
+        }
     }
 }

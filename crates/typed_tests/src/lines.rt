@@ -5,7 +5,8 @@ use std::process::Abort;
 use std::test::Fail;
 use typed::reading::{Answer, Line, read_line};
 
-// Adds a word of the notation for bytes: `7` is one byte, `#7` a number of eight bytes.
+// Adds a word of the notation for bytes: `7` is one byte, `#7` a number of eight bytes. formulas_tests has a like one, which stays its own:
+// crates share code only as a library, whose function would need a contract of what such words mean, which is longer than this.
 fn add(code: &mut Vec<u8>, word: &str) -> Result<(), Fail> {
     if let Some(number) = word.strip_prefix('#') {
         code.extend_from_slice(&number.parse::<u64>()?.to_be_bytes())?;
@@ -21,6 +22,17 @@ fn bytes(heap: Global, words: &str) -> Result<Vec<u8>, Fail> {
         add(&mut code, word)?;
     }
     Ok(code)
+}
+
+// Holds each case of a table: what stands before its arrow, and what behind it, if it has one.
+fn each_case<F: FnMut(&str, &str) -> Result<(), Fail>>(table: &str, mut hold: F) -> Result<(), Fail>
+    requires { F.IsAlwaysCallable hold }
+{
+    for case in table.lines() {
+        let (typed, expected) = case.split_once(" => ").unwrap_or((case, ""));
+        hold(typed, expected)?;
+    }
+    Ok(())
 }
 
 fn command(heap: Global, line: &str) -> Result<Vec<u8>, Fail> {
@@ -132,23 +144,20 @@ set A1 --------------------------------A1 => expected a formula less deep, of at
 
 #[test]
 fn commands_become_bytes(rt: HostRuntime) -> Result<(), Fail> {
-    for case in COMMANDS.lines() {
-        let (line, words) = case.split_once(" => ").unwrap_or((case, ""));
-        hold_bytes(&rt, rt.alloc(), line, words)?;
-    }
-    Ok(())
+    each_case(
+        COMMANDS,
+        |line, words| hold_bytes(&rt, rt.alloc(), line, words),
+    )
 }
 
 #[test]
 fn formulas_become_bytes(rt: HostRuntime) -> Result<(), Fail> {
     let heap = rt.alloc();
-    for case in FORMULAS.lines() {
-        let (formula, words) = case.split_once(" => ").unwrap_or((case, ""));
+    each_case(FORMULAS, |formula, words| -> Result<(), Fail> {
         let line = format!(in heap; "set A1 {formula}")?;
         let words = format!(in heap; "1 0 #0 {words}")?;
-        hold_bytes(&rt, heap, line.as_str(), words.as_str())?;
-    }
-    Ok(())
+        hold_bytes(&rt, heap, line.as_str(), words.as_str())
+    })
 }
 
 // What the formula of a command is printed as is read as the same command, with whatever was typed.
@@ -165,11 +174,8 @@ fn hold_again(rt: &impl Abort, heap: Global, formula: &str) -> Result<(), Fail> 
 
 #[test]
 fn printed_formulas_are_read_again(rt: HostRuntime) -> Result<(), Fail> {
-    for case in FORMULAS.lines().chain(DEEP.lines()) {
-        let (formula, _) = case.split_once(" => ").unwrap_or((case, ""));
-        hold_again(&rt, rt.alloc(), formula)?;
-    }
-    Ok(())
+    each_case(FORMULAS, |formula, _| hold_again(&rt, rt.alloc(), formula))?;
+    each_case(DEEP, |formula, _| hold_again(&rt, rt.alloc(), formula))
 }
 
 const VALUES: &str = "\
@@ -186,54 +192,32 @@ const VALUES: &str = "\
 #[test]
 fn values_are_printed(rt: HostRuntime) -> Result<(), Fail> {
     let heap = rt.alloc();
-    for case in VALUES.lines() {
-        let (words, text) = case.split_once(" => ").unwrap_or((case, ""));
+    each_case(VALUES, |words, text| -> Result<(), Fail> {
         let row = bytes(heap, words)?;
         let found = value_text(heap, row.as_slice())?;
-        assert_eq!(rt; found.as_str(), text, "{case}");
-    }
-    Ok(())
+        assert_eq!(&rt; found.as_str(), text, "{words}");
+        Ok(())
+    })
 }
 
 #[test]
 fn refusals_say_where(rt: HostRuntime) -> Result<(), Fail> {
-    for case in REFUSALS.lines() {
-        let (line, words) = case.split_once(" => ").unwrap_or((case, ""));
-        hold_refusal(&rt, rt.alloc(), line, words)?;
-    }
-    Ok(())
+    each_case(
+        REFUSALS,
+        |line, words| hold_refusal(&rt, rt.alloc(), line, words),
+    )
 }
 
 #[test]
 fn answers_are_known(rt: HostRuntime) {
     let heap = rt.alloc();
-    assert!(rt;
-        matches!(
-            read_line(heap, b"rows B1:D9"),
-            Ok(Line::Command {
-                bytes: _,
-                answer: Answer::Values { wide: 3 }
-            })
-        )
-    );
-    assert!(rt;
-        matches!(
-            read_line(heap, b"written B1"),
-            Ok(Line::Command {
-                bytes: _,
-                answer: Answer::Formula
-            })
-        )
-    );
-    assert!(rt;
-        matches!(
-            read_line(heap, b"wipe B1"),
-            Ok(Line::Command {
-                bytes: _,
-                answer: Answer::Done
-            })
-        )
-    );
-    assert!(rt; matches!(read_line(heap, b" # show B1"), Ok(Line::Nothing)));
-    assert!(rt; matches!(read_line(heap, b" quit "), Ok(Line::Quit)));
+    let answered = |line: &[u8]| match read_line(heap, line) {
+        Ok(Line::Command { bytes: _, answer }) => Some(answer),
+        _ => None,
+    };
+    assert_eq!(rt; answered(b"rows B1:D9"), Some(Answer::Values { wide: 3 }));
+    assert_eq!(rt; answered(b"written B1"), Some(Answer::Formula));
+    assert_eq!(rt; answered(b"wipe B1"), Some(Answer::Done));
+    assert_eq!(rt; read_line(heap, b" # show B1"), Ok(Line::Nothing));
+    assert_eq!(rt; read_line(heap, b" quit "), Ok(Line::Quit));
 }

@@ -1,9 +1,8 @@
-use Rattle.std.proofs.Common.{◌∙◌}
 use Rattle.sheet.proofs.Steps.{refusal_told}
 use Rattle.sheet.proofs.refusal.Goals as goal
 
 pub returns-in-Ok : goal.returns-in-Ok
-returns-in-Ok c = c.number.ensures ∙ refusal_told _ _ c.in-Ok.ensures
+returns-in-Ok c = refusal_told _ _ c.in-Ok.ensures
 
 pub returns-in-Err : goal.returns-in-Err
-returns-in-Err c = c.number-in-Err.ensures ∙ refusal_told _ _ c.in-Err.ensures
+returns-in-Err c = refusal_told _ _ c.in-Err.ensures

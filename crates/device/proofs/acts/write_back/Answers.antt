@@ -1,18 +1,17 @@
-use Rattle.std.proofs.Common.{◌≤◌, ◌⊎◌, [], length, sym, ◌∙◌, inl, inr, arith}
-use Rattle.std.proofs.lemmas.Bool.{cases_lt}
+use Rattle.std.proofs.Common.{sym, ◌∙◌}
+use Rattle.std.proofs.lemmas.Slice.Zip.{Zip-more, either_empty_from_Zip}
 use Rattle.device.proofs.Seen.{arrived_more, lost_more, left_all}
-use Rattle.device.proofs.acts.write_back.Goals.{then-arrived-i-eq-ARRIVED, else-arrived-i-eq-ARRIVED}
 use Rattle.device.proofs.acts.write_back.Goals as goal
 
-pub loop-i-preserved : goal.loop-i-preserved
-loop-i-preserved c =
-    elim c.if-arrived-i-eq-ARRIVED.branch [
-      | then-arrived-i-eq-ARRIVED w ↦ arrived_more c.loop-i.lines _ c.args.cache.now c.args.arrived.now c.loop-i.i (record { at = 0; line = [] }) (omega arith) (omega arith) w.if-arrived-i-eq-ARRIVED.true (w.lines-is ∙ w.put.ensures) ∙ c.loop-i.invariant
-      | else-arrived-i-eq-ARRIVED w ↦ lost_more c.loop-i.lines _ c.args.cache.now c.args.arrived.now c.loop-i.i (record { at = 0; line = [] }) (omega arith) (omega arith) w.if-arrived-i-eq-ARRIVED.false w.lines-is ∙ c.loop-i.invariant
-    ]
+pub loop-store-preserved-then-there-eq-ARRIVED : goal.loop-store-preserved-then-there-eq-ARRIVED
+loop-store-preserved-then-there-eq-ARRIVED c =
+    let t = Zip-more c.loop-store.store-iterator c.next.new.self _ _ c.in-Some.is c.next.ensures.steps in
+    arrived_more _ _ _ _ _ _ _ _ t.0 t.1 c.if-there-eq-ARRIVED.true c.put.ensures ∙ c.loop-store.invariant
+
+pub loop-store-preserved : goal.loop-store-preserved
+loop-store-preserved c =
+    let t = Zip-more c.loop-store.store-iterator c.next.new.self _ _ c.in-Some.is c.next.ensures.steps in
+    lost_more _ _ _ _ _ _ _ t.0 t.1 c.if-there-eq-ARRIVED.false ∙ c.loop-store.invariant
 
 pub returns : goal.returns
-returns c =
-    let spent : (length c.args.cache.now ≤ c.loop-i.i) ⊎ (length c.args.arrived.now ≤ c.loop-i.i)
-    = elim (cases_lt c.loop-i.i (length c.args.cache.now)) [ inl h ↦ inr (omega arith) | inr h ↦ inl h ] in
-    sym (left_all _ _ _ _ spent) ∙ c.loop-i.invariant
+returns c = sym (left_all _ _ _ (either_empty_from_Zip c.loop-store.store-iterator c.next.new.self _ c.in-None.is c.next.ensures.steps)) ∙ c.loop-store.invariant

@@ -1,14 +1,11 @@
-use Rattle.std.proofs.Common.{sym, refl, ◌∙◌}
-use Rattle.plain.specs.Read.{only}
+use Rattle.std.proofs.Common.{Ok, refl}
+use Rattle.plain.specs.Commands.{rows}
+use Rattle.spelling.specs.Meaning.{box_of}
+use Rattle.formulas.specs.declared.command.Command.TheVariants.{Rows}
+use Rattle.formulas.proofs.Telling.{told_if}
 use Rattle.formulas.proofs.command.rows.Goals as goal
 
-pub returns-in_default : goal.returns-in_default
-returns-in_default c = rw c.in_default.ensures
-
-pub returns-then-is_few : goal.returns-then-is_few
-unfolding only
-returns-then-is_few c = rw c.in-Some.ensures (rw (sym c.is_few.ensures ∙ c.if-is_few.true) (_, refl, refl))
-
-pub returns-else-is_few : goal.returns-else-is_few
-unfolding only
-returns-else-is_few c = rw c.in-Some.ensures (rw (sym c.is_few.ensures ∙ c.if-is_few.false))
+pub returns : goal.returns
+returns c =
+    let area = c.in_ok-area.area in
+    rw (c.in_ok-area.ensures, c.then_some.ensures, c.is_few.ensures) (told_if _ (rows (box_of area)) (Ok (Rows area), c.in_ok-area.rest) refl)

@@ -1,23 +1,19 @@
-use Rattle.std.proofs.Common.{refl, ◌∙◌}
+use Rattle.std.proofs.Common.{refl}
 use Rattle.std.proofs.lemmas.Bool.{le-leb, lt-leb}
 use Rattle.plain.specs.Read.{only}
+use Rattle.formulas.proofs.Telling.{told_unless}
 use Rattle.formulas.proofs.command.set.Goals as goal
 
-pub returns-in_default : goal.returns-in_default
-returns-in_default c = rw c.in_default.ensures
-
-pub returns-then-rest-gt-LONGEST : goal.returns-then-rest-gt-LONGEST
+pub returns-then-rest-gt-LONGEST_FORMULA : goal.returns-then-rest-gt-LONGEST_FORMULA
 unfolding only
-returns-then-rest-gt-LONGEST c = rw (c.in-Some.ensures, lt-leb _ 1024 c.if-rest-gt-LONGEST.true)
+returns-then-rest-gt-LONGEST_FORMULA c = rw (c.in_ok-place.ensures, lt-leb _ 1024 c.if-rest-gt-LONGEST_FORMULA.true)
 
-pub returns-in_default-formula : goal.returns-in_default-formula
+pub returns-in_err-core : goal.returns-in_err-core
 unfolding only
-returns-in_default-formula c = rw (c.in-Some.ensures, le-leb _ 1024 c.if-rest-gt-LONGEST.false, c.in_default-formula.ensures)
+returns-in_err-core c = rw (c.from_residual-in_err-core.ensures, c.in_ok-place.ensures, le-leb _ 1024 c.if-rest-gt-LONGEST_FORMULA.false, c.in_err-core.ensures)
 
-pub returns-then-core : goal.returns-then-core
+pub returns : goal.returns
 unfolding only
-returns-then-core c = rw (c.in-Some.ensures, le-leb _ 1024 c.if-rest-gt-LONGEST.false, c.in-Some-formula.ensures.1) (_, refl, rw (c.in-Some-formula.ensures.2 ∙ c.if-core.true))
-
-pub returns-else-core : goal.returns-else-core
-unfolding only
-returns-else-core c = rw (c.in-Some.ensures, le-leb _ 1024 c.if-rest-gt-LONGEST.false, c.in-Some-formula.ensures.1) (_, refl, rw (c.in-Some-formula.ensures.2 ∙ c.if-core.false))
+returns c =
+    rw (c.in_ok-place.ensures, le-leb _ 1024 c.if-rest-gt-LONGEST_FORMULA.false, c.in_ok-core.ensures.1)
+    (_, refl, rw (c.in_ok-core.ensures.2, c.ok_or-command.ensures.value, c.then_some.ensures) (told_unless _ _))

@@ -1,10 +1,11 @@
-use Rattle.std.proofs.Common.{◌-◌, ap, ◌∙◌, arith}
-use Rattle.machine.specs.Memory.{heard, put_at, packed}
-use Rattle.machine.proofs.Runs.{filled}
+use Rattle.std.proofs.Common.{◌∙◌}
+use Rattle.plain.proofs.EightBytes.{bytes_typed}
+use Rattle.machine.proofs.Runs.{filled, heard_words}
 use Rattle.machine.proofs.memory.hear.Goals as goal
 
 pub returns : goal.returns
-unfolding heard
 returns c =
-    ap (λ ws. put_at 64 136 c.args.memory.now ws)
-    (c.pack.ensures ∙ ap (λ bs. packed 136 bs) (c.put.ensures ∙ filled c.args.text.now c.min-few.result (c.min-few.result - 0) c.min-few.ensures (omega arith)))
+    let text = c.args.text.now in
+    let n = c.min-few.result in
+    heard_words c.args.memory.now text _ c.copy_from_slice-2.new.self (bytes_typed text c.type_inv.text)
+    (filled text c.copy_from_slice.new.self n c.min-few.ensures c.copy_from_slice.ensures.after) (c.copy_from_slice-2.ensures.after ∙ c.words_from.ensures)

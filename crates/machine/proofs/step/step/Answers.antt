@@ -1,26 +1,15 @@
-use Rattle.std.proofs.Common.{sym, refl}
-use Rattle.lines.proofs.Words.{blank_words}
-use Rattle.machine.proofs.Tells.{unfit, fit, booted, answered_so}
+use Rattle.std.proofs.Common.{◌≡◌, refl, rules}
+use Rattle.events.proofs.Tells.{unfit, fit}
+use Rattle.machine.specs.Engine.{engine_of}
+use Rattle.machine.proofs.Tells.{length_start, told_step}
 use Rattle.machine.proofs.step.step.Goals as goal
 
 pub returns-then-not-fits : goal.returns-then-not-fits
-returns-then-not-fits g c = unfit g.S.Stages.model _ _ _ _ _ (sym c.if-not-fits.ensures.is)
+returns-then-not-fits g c = let M = g.S.Stages.model in unfit (engine_of M) (length_start M) _ _ _ _ c.if-not-fits.ensures
 
-pub returns-in-On : goal.returns-in-On
-returns-in-On g c =
-    fit g.S.Stages.model _ _ _ _ _ _ _ _ _ (sym c.if-not-fits.ensures.is) (c.if-not-fits.ensures.sizes refl).0 c.in-On.ensures
-    (booted g.S.Stages.model _ _ _ _ _ _ _ c.save.ensures c.boot.ensures c.begin.ensures)
-
-pub returns-in-Said : goal.returns-in-Said
-returns-in-Said g c =
-    fit g.S.Stages.model _ _ _ _ _ _ _ _ _ (sym c.if-not-fits.ensures.is) (c.if-not-fits.ensures.sizes refl).0 c.in-Said.ensures c.hear_out.ensures
-
-pub returns-in-Line : goal.returns-in-Line
-returns-in-Line g c =
-    fit g.S.Stages.model _ _ _ _ _ _ _ _ _ (sym c.if-not-fits.ensures.is) (c.if-not-fits.ensures.sizes refl).0 c.in-Line.ensures
-    (answered_so g.S.Stages.model _ _ _ _ _ _ _ c.from_bytes.ensures.words c.answer.ensures)
-
-pub returns-in-Next : goal.returns-in-Next
-returns-in-Next g c =
-    fit g.S.Stages.model _ _ _ _ _ _ _ _ _ (sym c.if-not-fits.ensures.is) (c.if-not-fits.ensures.sizes refl).0 c.in-Next.ensures
-    (answered_so g.S.Stages.model _ _ _ _ _ _ _ (sym blank_words) c.answer-in-Next.ensures)
+pub returns : goal.returns
+returns g c =
+    let M = g.S.Stages.model in
+    let same : c.unwrap.result.now ≡ c.args.memory.now = search rules in
+    fit (engine_of M) (length_start M) _ _ _ _ _ _ _ _ c.if-not-fits.ensures c.told.ensures
+    (told_step M _ _ _ _ _ _ _ _ (c.if-not-fits.ensures.0 refl).0 same c.tell-outcome.ensures c.tell.ensures)

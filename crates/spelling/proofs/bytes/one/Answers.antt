@@ -2,9 +2,9 @@ use Rattle.plain.specs.Read.{one}
 use Rattle.spelling.proofs.Fronts.{one_none}
 use Rattle.spelling.proofs.bytes.one.Goals as goal
 
-pub returns-in_default : goal.returns-in_default
-returns-in_default c = one_none _ c.in_default.ensures.cases
+pub returns-in_err-first : goal.returns-in_err-first
+returns-in_err-first c = rw c.from_residual.ensures (one_none _ c.in_err-first.ensures.cases)
 
 pub returns : goal.returns
 unfolding one
-returns c = rw c.in-Some.ensures.cases.0
+returns c = rw c.in_ok-first.ensures.cases.0

@@ -1,7 +1,7 @@
 use Rattle.std.proofs.Common.{length, sym, ap, ◌∙◌}
 use Rattle.plain.proofs.Stops.{stop_length}
 use Rattle.device.specs.Model.{device_of}
-use Rattle.device.proofs.Seen.{seen_long, stopped_so, stopped_seen, stop_then}
+use Rattle.device.proofs.Seen.{seen_long, stopped_seen, stop_then}
 use Rattle.device.proofs.memory.Device.stop.Goals as goal
 
 pub copy_from_slice-requires : goal.copy_from_slice-requires
@@ -12,7 +12,3 @@ copy_from_slice-requires c =
 
 pub invariant_of-self : goal.invariant_of-self
 invariant_of-self c = record { seen_is = stopped_seen _ _ _ (c.copy_from_slice.ensures.items ∙ c.deref-2.ensures.value) c.clear.ensures.items }
-
-pub returns : goal.returns
-returns c =
-    stopped_so _ _ _ _ _ (stop_then _ _ _ _ _ _ _ c.args.self.now.lines.ok.0 c.deref_mut.ensures.value c.deref.ensures.value c.write_back.ensures) c.clear.ensures.items

@@ -2,7 +2,7 @@ use Rattle.std.proofs.Common.{length, vec_items, sym, ap, ◌∙◌}
 use Rattle.plain.specs.Device.{set_line, all_stored}
 use Rattle.plain.proofs.Stops.{length_set}
 use Rattle.device.specs.Stores.{stores_of}
-use Rattle.device.proofs.Seen.{lent_back, seen_more, stored_so}
+use Rattle.device.proofs.Seen.{lent_back, seen_more}
 use Rattle.device.proofs.memory.Device.store.Goals as goal
 
 pub invariant_of-self-2 : goal.invariant_of-self-2
@@ -12,6 +12,3 @@ invariant_of-self-2 c =
           ∙ (c.put.ensures ∙ (ap (λ ls. set_line ls c.args.k c.args.line) (c.deref_mut.ensures.value ∙ c.args.self.now.seen_is)
           ∙ sym (ap (λ ws. all_stored ls (stores_of ws)) c.in_ok-push.ensures.items ∙ seen_more ls _ _)));
     }
-
-pub returns : goal.returns
-returns c = stored_so _ _ _ _ _ c.in_ok-push.ensures.items

@@ -5,5 +5,5 @@ use Rattle.host.proofs.machine.Machine.power.Goals as goal
 
 pub returns : goal.returns
 returns c =
-    rw (woken_so c.args.most_acts _ (device_of c.args.self.now.device) _ _ _
-    (c.fill.ensures.items (λ y h. h) ∙ ap (λ n. replicate n 0) c.args.self.now.sizes.0) c.count-lines.ensures c.count-lines.type_inv c.to_be_bytes.ensures) c.run.ensures
+    rw (woken_so c.args.most_acts _ (device_of c.args.self.now.device) _ _
+    (c.fill.ensures.items (λ y h. h) ∙ ap (λ n. replicate n 0) c.args.self.now.sizes.0) c.count-lines.ensures) c.run.ensures

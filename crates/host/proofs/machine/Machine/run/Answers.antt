@@ -10,5 +10,5 @@ returns-then-most_acts-eq0 c = none_run _ _ _ _ c.if-most_acts-eq0.true (ap (eac
 pub returns : goal.returns
 returns c =
     let a = c.in_ok-first.ensures in
-    all_run _ _ (world_of c.act.new.self) _ c.in_ok-first.first (rows_of c.new-shown.result) (rows_of c.act.new.shown) a.0 _ c.if-most_acts-eq0.false (ap (each vec_items) c.new-shown.ensures.items) a.1 a.2
-    c.in_ok-tally.ensures
+    rw (all_run _ _ (world_of c.act.new.self) _ c.in_ok-first.first (rows_of c.new-shown.result) (rows_of c.act.new.shown) a.0 c.if-most_acts-eq0.false (ap (each vec_items) c.new-shown.ensures.items) a.1 a.2)
+    c.go_on.ensures

@@ -1,10 +1,9 @@
-use Rattle.std.proofs.Common.{sym, ◌∙◌}
-use Rattle.std.proofs.lemmas.Bool.{leb-true, leb-false}
-use Rattle.lines.proofs.Tapes.{not_here, done_here}
+use Rattle.std.proofs.Common.{refl}
+use Rattle.lines.proofs.Tapes.{left, ends, ask_goes, ask_stops}
 use Rattle.lines.proofs.tape.Tape.act.Goals as goal
 
-pub returns-then-is_read : goal.returns-then-is_read
-returns-then-is_read c = not_here _ _ _ _ (leb-true _ _ (sym c.is_read.ensures ∙ c.if-is_read.true))
+pub returns-in_err-answer : goal.returns-in_err-answer
+returns-in_err-answer c = left (λ a. a) _ _ _ _ c.from_residual.ensures.1 (ask_stops _ _ _ _ c.in_err-answer.ensures)
 
 pub returns : goal.returns
-returns c = done_here _ _ _ (leb-false _ _ (sym c.is_read.ensures ∙ c.if-is_read.false))
+returns c = ask_goes _ _ _ _ _ _ c.in_ok-answer.ensures (ends _ refl)

@@ -1,18 +1,18 @@
 use Rattle.plain.specs.Read.{read_ref}
 use Rattle.spelling.proofs.place.Reference.read.Goals as goal
 
-pub returns-in_default : goal.returns-in_default
+pub returns-in_err-place : goal.returns-in_err-place
 unfolding read_ref
-returns-in_default c = rw c.in_default.ensures
+returns-in_err-place c = rw (c.from_residual.ensures, c.in_err-place.ensures)
 
-pub returns-in_default-flag : goal.returns-in_default-flag
+pub returns-in_err-fix_col : goal.returns-in_err-fix_col
 unfolding read_ref
-returns-in_default-flag c = rw (c.in-Some.ensures, c.in_default-flag.ensures)
+returns-in_err-fix_col c = rw (c.from_residual-in_err-fix_col.ensures, c.in_ok-place.ensures, c.in_err-fix_col.ensures)
 
-pub returns-in_default-flag-2 : goal.returns-in_default-flag-2
+pub returns-in_err-fix_row : goal.returns-in_err-fix_row
 unfolding read_ref
-returns-in_default-flag-2 c = rw (c.in-Some.ensures, c.in-Some-flag.ensures, c.in_default-flag-2.ensures)
+returns-in_err-fix_row c = rw (c.from_residual-in_err-fix_row.ensures, c.in_ok-place.ensures, c.in_ok-fix_col.ensures, c.in_err-fix_row.ensures)
 
 pub returns : goal.returns
 unfolding read_ref
-returns c = rw (c.in-Some.ensures, c.in-Some-flag.ensures, c.in-Some-flag-2.ensures)
+returns c = rw (c.in_ok-place.ensures, c.in_ok-fix_col.ensures, c.in_ok-fix_row.ensures)
