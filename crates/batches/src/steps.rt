@@ -29,7 +29,7 @@ pub(crate) fn target_line(entry: u32) -> u64
 pub(crate) fn content_line(entry: u32) -> u64
     ensures { result ≡ 2 + 2 * entry }
 {
-    2 + 2 * u64::from(entry)
+    target_line(entry) + 1
 }
 
 pub(crate) fn write_line(tape: &mut Tape, k: u64, line: Line) -> Result<(), Act>

@@ -7,7 +7,7 @@ ghost use Rattle.events.specs.Events.{bytes_in, heard, kind_of};
 // A number of eight bytes, the highest first.
 const NUMBER_BYTES: usize = 8;
 
-#[derive(Clone, Copy, Debug, PartialEq)]
+#[derive(Clone, Copy, Debug, PartialEq, Eq)]
 pub enum Event<'a> {
     // Power is there, and so many lines.
     On(u64),

@@ -8,7 +8,7 @@ pub const ROW_BYTES: usize = 131072;
 
 const KINDS_OF_EVENTS: u64 = 4;
 
-// A step does nothing where this does not hold.
+// A step does nothing where this does not hold. The kind is a number, and memory and row are slices, since the interface of a step is fixed.
 pub fn fits(memory: &[u64], kind: u64, out: &[u8]) -> bool
     ensures { IsTrue result ↔ HasSizes memory.now kind out.now }
 {

@@ -27,7 +27,7 @@ pub fn words_from<const N: usize>(bytes: &[u8]) -> [u64; N]
 impl Line {
     pub const BLANK: Line = Line { words: [0; 8] };
 
-    // The line that holds a number in its first word, and nothing else.
+    // The line that holds a number in its first word, and nothing else: a name, since a number is not as such a line.
     pub fn with_number(n: u64) -> Line
         ensures { line_of result ≡ number_line n }
     {

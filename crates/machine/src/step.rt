@@ -69,7 +69,7 @@ fn tell<S: Stages>(memory: &mut Memory, event: Event) -> Outcome
 
 // One step: memory of 262,144 words, which the caller keeps from step to step and fills with 0 when power comes; the kind of event (0 power, with
 // the number of lines as eight bytes, 1 a command, 2 the line that was asked for, 3 go on) and its bytes; and a row of 131,072 bytes for what is
-// stored or shown. Anything else is answered with number 0, and nothing is changed.
+// stored or shown. Anything else is answered with number 0, and nothing is changed. The signature is fixed.
 pub fn step<S: Stages>(memory: &mut [u64], kind: u64, bytes: &[u8], out: &mut [u8]) -> Told
     ensures { StepOf (engine_of S.Stages.model) memory.old kind bytes.now out.old (fits_of (engine_of S.Stages.model) memory.old kind bytes.now out.old) result memory.new out.new }
 {

@@ -1,5 +1,5 @@
-// The numbers that commands are spelled with, and their limits. They stay numbers, and stand here again: another reader shares none of them
-// with the proved one. Places and areas are types of spelling.
+// The numbers that commands are spelled with, and their limits. They stand here again, since another reader shares none of them with the proved one.
+// They stay numbers, since an enum is no plainer: they are matched as patterns beside positions and lengths, and it would first be made from each byte.
 
 // The byte that a command begins with.
 pub const SET: u8 = 1;

@@ -28,7 +28,7 @@ fn refusal(bytes: &[u8]) -> Refusal
 
 // One step: memory of 262,144 words, which the caller keeps from step to step and fills with 0 when power comes; the kind of event (0 power, with
 // the number of lines as eight bytes, 1 a command, 2 the line that was asked for, 3 go on) and its bytes; and a row of 131,072 bytes for what is
-// stored or shown. Anything else is answered with number 0, and nothing is changed.
+// stored or shown. Anything else is answered with number 0, and nothing is changed. The signature is fixed.
 #[tactic(auto, using(crate::proofs::Steps::no_says, crate::proofs::Steps::says), unfolding(events::specs::Entry::ActTold))]
 pub fn step(memory: &mut [u64], kind: u64, bytes: &[u8], out: &mut [u8]) -> Told
     ensures { StepSays memory.old kind bytes.now out.old (step_fits memory.old kind bytes.now out.old) result memory.new out.new }

@@ -1,5 +1,6 @@
 -- The byte that each kind has, and the word or mark with which it is typed. Assumes nothing: these are definitions.
-use Rattle.std.specs.Prelude.{◌≡◌, ◌≢◌, ℕ, List, Option, Result, MatchOption, MatchResult, ⊤, codes}
+use Rattle.std.specs.Prelude.{◌≡◌, ◌≢◌, ℕ, List, [], ◌∷◌, Option, Result, All, MatchOption, MatchResult, IsFalse, IsTrue, nat_eq, codes}
+use Rattle.std.specs.List.{starts_with}
 use Rattle.spelling.specs.declared.kinds.NoSuchKind.{NoSuchKind}
 use Rattle.spelling.specs.declared.kinds.CommandKind.{CommandKind}
 use Rattle.spelling.specs.declared.kinds.CommandKind.TheVariants as command
@@ -103,9 +104,9 @@ abbrev pub axis_word : Axis → List ℕ
 axis_word axis.Columns = codes "columns"
 axis_word axis.Rows = codes "rows"
 
--- a kind that is found by a word has it
-abbrev pub IsNamed : {K : Type 0} → (K → List ℕ) → List ℕ → Option K → Type 0
-IsNamed word text r = MatchOption r ⊤ (λ k. word k ≡ text)
+-- a kind that is found by a word has it; where none is found, none of these has it
+abbrev pub IsNamed : {K : Type 0} → List K → (K → List ℕ) → List ℕ → Option K → Type 0
+IsNamed all word text r = MatchOption r (All (λ k. word k ≢ text) all) (λ k. word k ≡ text)
 
 abbrev pub operator_mark : Operator → List ℕ
 operator_mark operator.Sum = codes "+"
@@ -116,3 +117,19 @@ operator_mark operator.Joined = codes "&"
 operator_mark operator.Equal = codes "="
 operator_mark operator.Less = codes "<"
 operator_mark operator.AtMost = codes "<="
+
+abbrev pub all_commands : List CommandKind
+all_commands = command.Set ∷ command.Wipe ∷ command.Show ∷ command.Rows ∷ command.Written ∷ command.Name ∷ command.Unname ∷ command.Insert ∷ command.Remove ∷ command.Copy ∷ []
+
+abbrev pub all_functions : List Function
+all_functions = function.Sum ∷ function.Count ∷ function.Least ∷ function.Greatest ∷ function.If ∷ function.Lookup ∷ function.Place ∷ function.SumIf ∷ function.Length ∷ function.Not ∷ []
+
+abbrev pub all_axes : List Axis
+all_axes = axis.Columns ∷ axis.Rows ∷ []
+
+abbrev pub all_operators : List Operator
+all_operators = operator.Sum ∷ operator.Difference ∷ operator.Product ∷ operator.Quotient ∷ operator.Joined ∷ operator.Equal ∷ operator.AtMost ∷ operator.Less ∷ []
+
+-- an operator that is found before a text has its mark there; where none is found, no operator's mark is
+abbrev pub IsBefore : List ℕ → Option Operator → Type 0
+IsBefore text r = MatchOption r (All (λ o. IsFalse (starts_with nat_eq text (operator_mark o))) all_operators) (λ o. IsTrue (starts_with nat_eq text (operator_mark o)))

@@ -1,13 +1,13 @@
 // The bytes that say of what kind something is: a command, a formula, a constant, an operator, a function, or rows and columns.
 // Each kind is an enum that is read from a byte; those that are typed have their words and marks.
-ghost use Rattle.std.specs.Prelude.{◌≡◌, List, ℕ, Some, IfSome, IsTrue, nat_eq};
-ghost use Rattle.std.specs.List.{starts_with};
-ghost use Rattle.spelling.specs.Kinds.{IsNamed, Numbered, axis_number, axis_word, command_number, command_word, constant_number, formula_number, function_number, function_word, lines_along, operator_mark, operator_number};
+ghost use Rattle.std.specs.Prelude.{◌≡◌, List, ℕ, Some};
+ghost use Rattle.spelling.specs.Kinds.{IsBefore, IsNamed, Numbered, all_axes, all_commands, all_functions, all_operators, axis_number, axis_word, command_number, command_word, constant_number, formula_number, function_number, function_word, lines_along, operator_mark, operator_number};
 
 use std::error::Error;
 use std::fmt;
 
-// Each enum has its own table from bytes: one impl for all of them is not allowed (it would be for every type), and five more would be no shorter.
+// Each enum has its own table from bytes: a search through a list of its variants would need that list and each variant's byte, which is no shorter
+// than the table, and slower.
 
 // A byte that stands for no such kind.
 #[derive(Clone, Copy, Debug, PartialEq, Eq)]
@@ -214,9 +214,12 @@ impl Axis {
 
 // What a word stands for in a typed line.
 pub trait Worded: Copy + 'static {
-    const ALL: &'static [Self];
+    ghost kinds: { List Self };
 
     ghost word: { Self → List ℕ };
+
+    fn all() -> &'static [Self]
+        ensures { result.now ≡ kinds };
 
     fn word(self) -> &'static str
         ensures { result.now ≡ word self };
@@ -224,27 +227,31 @@ pub trait Worded: Copy + 'static {
 
 // The kind that this word stands for.
 pub fn named<K: Worded>(text: &[u8]) -> Option<K>
-    ensures { IsNamed K.Worded.word text.now result }
+    ensures { IsNamed K.Worded.kinds K.Worded.word text.now result }
 {
-    K::ALL
+    K::all()
         .iter()
         .copied()
         .find(|kind| kind.word().as_bytes() == text)
 }
 
 impl Worded for CommandKind {
-    const ALL: &'static [CommandKind] = &[
-        CommandKind::Set,
-        CommandKind::Wipe,
-        CommandKind::Show,
-        CommandKind::Rows,
-        CommandKind::Written,
-        CommandKind::Name,
-        CommandKind::Unname,
-        CommandKind::Insert,
-        CommandKind::Remove,
-        CommandKind::Copy,
-    ];
+    ghost kinds = { all_commands };
+
+    fn all() -> &'static [CommandKind] {
+        &[
+            CommandKind::Set,
+            CommandKind::Wipe,
+            CommandKind::Show,
+            CommandKind::Rows,
+            CommandKind::Written,
+            CommandKind::Name,
+            CommandKind::Unname,
+            CommandKind::Insert,
+            CommandKind::Remove,
+            CommandKind::Copy,
+        ]
+    }
 
     ghost word = { command_word };
 
@@ -265,18 +272,22 @@ impl Worded for CommandKind {
 }
 
 impl Worded for Function {
-    const ALL: &'static [Function] = &[
-        Function::Sum,
-        Function::Count,
-        Function::Least,
-        Function::Greatest,
-        Function::If,
-        Function::Lookup,
-        Function::Place,
-        Function::SumIf,
-        Function::Length,
-        Function::Not,
-    ];
+    ghost kinds = { all_functions };
+
+    fn all() -> &'static [Function] {
+        &[
+            Function::Sum,
+            Function::Count,
+            Function::Least,
+            Function::Greatest,
+            Function::If,
+            Function::Lookup,
+            Function::Place,
+            Function::SumIf,
+            Function::Length,
+            Function::Not,
+        ]
+    }
 
     ghost word = { function_word };
 
@@ -297,7 +308,11 @@ impl Worded for Function {
 }
 
 impl Worded for Axis {
-    const ALL: &'static [Axis] = &[Axis::Columns, Axis::Rows];
+    ghost kinds = { all_axes };
+
+    fn all() -> &'static [Axis] {
+        &[Axis::Columns, Axis::Rows]
+    }
 
     ghost word = { axis_word };
 
@@ -309,23 +324,27 @@ impl Worded for Axis {
     }
 }
 
-impl Operator {
-    // A mark that another begins with stands behind it.
-    const ALL: [Operator; 8] = [
-        Operator::Sum,
-        Operator::Difference,
-        Operator::Product,
-        Operator::Quotient,
-        Operator::Joined,
-        Operator::Equal,
-        Operator::AtMost,
-        Operator::Less,
-    ];
+// An operator's word is its mark.
+impl Worded for Operator {
+    ghost kinds = { all_operators };
 
-    // What stands between the two operands.
-    pub fn mark(self) -> &'static str
-        ensures { result.now ≡ operator_mark self }
-    {
+    // A mark that another begins with stands behind it.
+    fn all() -> &'static [Operator] {
+        &[
+            Operator::Sum,
+            Operator::Difference,
+            Operator::Product,
+            Operator::Quotient,
+            Operator::Joined,
+            Operator::Equal,
+            Operator::AtMost,
+            Operator::Less,
+        ]
+    }
+
+    ghost word = { operator_mark };
+
+    fn word(self) -> &'static str {
         match self {
             Operator::Sum => "+",
             Operator::Difference => "-",
@@ -337,14 +356,17 @@ impl Operator {
             Operator::AtMost => "<=",
         }
     }
+}
 
+impl Operator {
     // The operator whose mark comes first, the longest where there are two.
     pub fn before(text: &[u8]) -> Option<Operator>
-        ensures { IfSome result (λ operator. IsTrue (starts_with nat_eq text.now (operator_mark operator))) }
+        ensures { IsBefore text.now result }
     {
-        Operator::ALL
-            .into_iter()
-            .find(|operator| text.starts_with(operator.mark().as_bytes()))
+        Operator::all()
+            .iter()
+            .copied()
+            .find(|operator| text.starts_with(operator.word().as_bytes()))
     }
 }
 
@@ -360,6 +382,6 @@ impl fmt::Display for Operator {
     ghost output = { λ operator. Some (operator_mark operator) };
 
     fn fmt<W: fmt::Write>(&self, f: &mut fmt::Formatter<W>) -> fmt::Result {
-        f.write_str(self.mark())
+        f.write_str(self.word())
     }
 }

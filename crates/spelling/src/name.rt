@@ -7,7 +7,7 @@ ghost use Rattle.spelling.specs.Meaning.{Reads, name_byte};
 use crate::bytes::counted;
 use crate::limits::LONGEST_NAME;
 
-fn is_name_byte(b: u8) -> bool
+pub fn is_name_byte(b: u8) -> bool
     ensures { result ≡ name_byte b }
 {
     matches!(b, b'a'..=b'z' | b'A'..=b'Z' | b'0'..=b'9' | b'_')

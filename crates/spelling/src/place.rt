@@ -39,6 +39,7 @@ impl Place {
 }
 
 impl Area {
+    // Each side has a type of its own, since a box may have more rows than sixteen bits can count.
     pub fn columns(self) -> u16
         ensures { result ≡ suc (self.last.col - self.first.col) }
     {

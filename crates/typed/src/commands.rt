@@ -17,21 +17,21 @@ fn line(axis: Axis, word: Word) -> Result<u64, Unreadable> {
             Expected::Row,
         ),
     };
-    line.ok_or(word.lacks(expected))
+    line.ok_or(expected.at(word.column))
 }
 
 fn how_many(axis: Axis, word: Word) -> Result<u64, Unreadable> {
     DECIMALS
         .with_digits(0, word.bytes)
         .filter(|many| 1 <= *many && *many <= axis.lines())
-        .ok_or(word.lacks(Expected::HowMany))
+        .ok_or(Expected::HowMany.at(word.column))
 }
 
 impl<'a> Reader<'a> {
     // Rows or columns: from which on, and how many.
     fn read_lines(&mut self) -> Result<(), Unreadable> {
         let word = self.cursor.word();
-        let axis: Axis = named(word.bytes).ok_or(word.lacks(Expected::RowsOrColumns))?;
+        let axis: Axis = named(word.bytes).ok_or(Expected::RowsOrColumns.at(word.column))?;
         let at = line(axis, self.cursor.word())?;
         let many = how_many(axis, self.cursor.word())?;
         self.code.put(axis as u8)?;

@@ -25,7 +25,7 @@ impl<'a> Cursor<'a> {
         if !self.takes(b'.') {
             return Ok(&[]);
         }
-        let refused = self.lacks(Expected::Decimals);
+        let refused = Expected::Decimals.at(self.column);
         Some(self.run(u8::is_ascii_digit))
             .filter(|digits| matches!(digits.len(), 1..=6))
             .ok_or(refused)
@@ -46,12 +46,12 @@ impl<'a> Cursor<'a> {
 
     // The next byte of a text, or none at its closing quote.
     fn text_byte(&mut self) -> Result<Option<u8>, Unreadable> {
-        let at = *self;
+        let column = self.column;
         match self.byte() {
             Some(b'\'') => Ok(self.takes(b'\'').then_some(b'\'')),
-            Some(b'\\') => Ok(Some(self.escape().ok_or(at.lacks(Expected::Escape))?)),
+            Some(b'\\') => Ok(Some(self.escape().ok_or(Expected::Escape.at(column))?)),
             // no text has a 0 that is not escaped
-            None | Some(0) => Err(at.lacks(Expected::ClosingQuote)),
+            None | Some(0) => Err(Expected::ClosingQuote.at(column)),
             plain => Ok(plain),
         }
     }
@@ -62,7 +62,7 @@ impl<'a> Reader<'a> {
     pub fn read_number(&mut self) -> Result<(), Unreadable>
         ensures { Grows self.old.code self.new.code }
     {
-        let refused = self.cursor.lacks(Expected::SmallerNumber);
+        let refused = Expected::SmallerNumber.at(self.cursor.column);
         let minus = self.cursor.takes(b'-');
         let whole = self.cursor.run(u8::is_ascii_digit);
         let n = millionths(whole, self.cursor.decimals()?).ok_or(refused)?;
@@ -77,7 +77,7 @@ impl<'a> Reader<'a> {
         ensures { Grows self.old.code self.new.code }
     {
         let _quote = self.cursor.byte();
-        let refused = self.cursor.lacks(Expected::ShorterText);
+        let refused = Expected::ShorterText.at(self.cursor.column);
         self.code.put_constant(ConstantKind::Text)?;
         self.code.put_all(&[0; 7])?;
         let start = self.code.len();

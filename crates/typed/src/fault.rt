@@ -58,6 +58,13 @@ impl fmt::Display for Expected {
     }
 }
 
+impl Expected {
+    // Why a line is refused where something else stands in its place.
+    pub fn at(self, column: usize) -> Unreadable {
+        Unreadable::Lacks(self, column)
+    }
+}
+
 // Why a line is not read.
 #[derive(Clone, Copy, Debug, PartialEq, Eq)]
 pub enum Unreadable {

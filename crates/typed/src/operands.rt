@@ -21,7 +21,7 @@ impl<'a> Reader<'a> {
         ensures { Grows self.old.code self.new.code }
     {
         if !is_name(word.bytes) {
-            return Err(word.lacks(Expected::Name));
+            return Err(Expected::Name.at(word.column));
         }
         self.code.put_counted(word.bytes)?;
         Ok(())
@@ -32,7 +32,7 @@ impl<'a> Reader<'a> {
         let marked = self.cursor.passes(b'@');
         let word = self.cursor.word();
         if !marked && !is_plain(word.bytes) {
-            return Err(word.lacks(Expected::Name));
+            return Err(Expected::Name.at(word.column));
         }
         self.put_name(word)
     }
@@ -81,7 +81,7 @@ impl<'a> Reader<'a> {
         ensures { Grows self.old.code self.new.code }
     {
         if word.bytes.is_empty() {
-            return Err(word.lacks(Expected::Formula));
+            return Err(Expected::Formula.at(word.column));
         }
         if has_shape_of_place(word.bytes) {
             return self.put_target(word);

@@ -87,7 +87,7 @@ fn as_reference(word: &[u8]) -> Option<Reference> {
 
 // A place as a formula has it.
 pub fn reference(word: Word) -> Result<Reference, Unreadable> {
-    as_reference(word.bytes).ok_or(word.lacks(Expected::Place))
+    as_reference(word.bytes).ok_or(Expected::Place.at(word.column))
 }
 
 // A place as a command has it, which nothing can fix.
@@ -95,7 +95,7 @@ pub fn place(word: Word) -> Result<Place, Unreadable> {
     as_reference(word.bytes)
         .filter(|to| !to.fix_col && !to.fix_row)
         .map(|to| to.place)
-        .ok_or(word.lacks(Expected::Place))
+        .ok_or(Expected::Place.at(word.column))
 }
 
 // A place, or two opposite corners of a box.

@@ -1,9 +1,10 @@
 // Going through a line from its front: words, runs of bytes of one kind, and marks.
 use crate::fault::{Expected, Unreadable};
+use spelling::name::is_name_byte;
 
-// What words are made of: letters, digits, _ and the $ of a fixed place.
+// What words are made of: what names are, and the $ of a fixed place.
 fn is_word_byte(b: &u8) -> bool {
-    b.is_ascii_alphanumeric() || *b == b'_' || *b == b'$'
+    is_name_byte(*b) || *b == b'$'
 }
 
 // A word, perhaps of no bytes, and the column at which it stands.
@@ -11,13 +12,6 @@ fn is_word_byte(b: &u8) -> bool {
 pub struct Word<'a> {
     pub bytes: &'a [u8],
     pub column: usize,
-}
-
-impl<'a> Word<'a> {
-    // Why the word is refused: what was expected in its place.
-    pub fn lacks(self, expected: Expected) -> Unreadable {
-        Unreadable::Lacks(expected, self.column)
-    }
 }
 
 // What of a line is still to be read, and the column at which it begins.
@@ -33,11 +27,6 @@ impl<'a> Cursor<'a> {
             rest: line,
             column: 1,
         }
-    }
-
-    // Why the line is refused: what was expected at the next byte.
-    pub fn lacks(&self, expected: Expected) -> Unreadable {
-        Unreadable::Lacks(expected, self.column)
     }
 
     pub fn rest(&self) -> &'a [u8] {
@@ -105,7 +94,7 @@ impl<'a> Cursor<'a> {
         if self.ends() {
             Ok(())
         } else {
-            Err(self.lacks(expected))
+            Err(expected.at(self.column))
         }
     }
 }

@@ -5,7 +5,7 @@ use crate::fault::{Expected, Unreadable};
 use crate::reader::Reader;
 use crate::scan::Cursor;
 use crate::words::level;
-use spelling::kinds::{FormulaKind, Function, Operator, named};
+use spelling::kinds::{FormulaKind, Function, Operator, Worded, named};
 use spelling::limits::{DEEPEST_FORMULA, LONGEST_FORMULA, MOST_VALUES};
 
 // Tighter than any operator binds.
@@ -22,7 +22,7 @@ impl<'a> Cursor<'a> {
     fn operator(&mut self, lowest: u8) -> Option<Operator> {
         self.skip_blanks();
         let found = Operator::before(self.rest()).filter(|found| level(*found) >= lowest)?;
-        let _mark = self.take(found.mark().len());
+        let _mark = self.take(found.word().len());
         Some(found)
     }
 }
@@ -34,12 +34,12 @@ impl<'a> Reader<'a> {
         ensures { Grows self.old.code self.new.code }
     {
         if depth == 0 {
-            return Err(self.cursor.lacks(Expected::ShallowerFormula));
+            return Err(Expected::ShallowerFormula.at(self.cursor.column));
         }
         let start = self.code.len();
         self.operand(depth - 1)?;
         if self.code.len() > LONGEST {
-            return Err(self.cursor.lacks(Expected::ShorterFormula));
+            return Err(Expected::ShorterFormula.at(self.cursor.column));
         }
         // Each further operator makes the formula deeper by one.
         for _ in 0..DEEPEST_FORMULA {
@@ -51,7 +51,7 @@ impl<'a> Reader<'a> {
             self.code.put_before(start, FormulaKind::Operator as u8)?;
             self.formula(level(found) + 1, depth - 1)?;
         }
-        Err(self.cursor.lacks(Expected::ShallowerFormula))
+        Err(Expected::ShallowerFormula.at(self.cursor.column))
     }
 
     // An operand, by the mark with which it begins; a minus before a digit is the number's.
@@ -88,7 +88,7 @@ impl<'a> Reader<'a> {
         if self.cursor.takes(b')') {
             Ok(())
         } else {
-            Err(self.cursor.lacks(Expected::ClosingBracket))
+            Err(Expected::ClosingBracket.at(self.cursor.column))
         }
     }
 
@@ -124,10 +124,10 @@ impl<'a> Reader<'a> {
                 return Ok(());
             }
             if !self.cursor.takes(b',') {
-                return Err(self.cursor.lacks(Expected::CommaOrBracket));
+                return Err(Expected::CommaOrBracket.at(self.cursor.column));
             }
         }
-        Err(self.cursor.lacks(Expected::FewerValues))
+        Err(Expected::FewerValues.at(self.cursor.column))
     }
 
     // The formula that comes next. No operator is behind it.

@@ -1,10 +1,10 @@
 // How tightly operators bind, and the words of a formula that are neither names nor functions.
 ghost use Rattle.std.specs.Prelude.{◌≤◌};
-ghost use Rattle.typed.specs.Keywords.{keyword_word};
+ghost use Rattle.typed.specs.Keywords.{all_keywords, keyword_word};
 
 use spelling::kinds::{Operator, Worded};
 
-// How tightly an operator binds.
+// How tightly an operator binds: a number, since the next tighter one is reckoned from it.
 pub fn level(operator: Operator) -> u8
     ensures { result ≤ 3 }
 {
@@ -25,7 +25,11 @@ pub enum Keyword {
 }
 
 impl Worded for Keyword {
-    const ALL: &'static [Keyword] = &[Keyword::Truth(false), Keyword::Truth(true), Keyword::Gone];
+    ghost kinds = { all_keywords };
+
+    fn all() -> &'static [Keyword] {
+        &[Keyword::Truth(false), Keyword::Truth(true), Keyword::Gone]
+    }
 
     ghost word = { keyword_word };
 
