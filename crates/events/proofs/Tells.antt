@@ -1,15 +1,10 @@
 -- What is told: what fits, and what a step of any engine comes to.
 use Rattle.std.proofs.Common.{◌≡◌, ℕ, Bool, true, false, eqb, leb, IsTrue, ◌↔◌, List, length, refl, sym}
 use Rattle.std.proofs.lemmas.Bool.{eq-eqb, le-leb, eqb-true, leb-true, and_parts}
-use Rattle.plain.specs.Run.{Engine, refused, Event}
+use Rattle.plain.specs.Run.{Engine, Event}
 use Rattle.events.specs.declared.told.Told.{Told}
 use Rattle.events.specs.declared.told.Told.TheVariants.{No}
-use Rattle.events.specs.Entry.{HasSizes, event_of, ActTold, StepTold, StepOf, fits_of}
-
--- a refusal leaves the row as it is
-pub no_told : (k : ℕ) (out : List ℕ) → ActTold (refused k) (No k) out out
-unfolding ActTold
-no_told k out = (refl, refl)
+use Rattle.events.specs.Entry.{HasSizes, event_of, StepTold, StepOf, fits_of}
 
 -- an engine whose memory is of 262,144 words: what does not fit changes nothing, and what fits is a step
 module _ (e : Engine) (start : length e.start ≡ 262144) (m : List ℕ) (k : ℕ) (bs out : List ℕ) where
