@@ -44,7 +44,9 @@ impl Bench {
             .map_or(Line::BLANK, |bytes| Line::from(&bytes[..]))
     }
 
-    // Carries an act out, and notes what it is answered.
+    // Carries an act out, and notes what it is answered. Inlined, since an act is as large as the longest row: handed over to a function it is built
+    // and copied whole on each way through a stage, where otherwise only the one that is asked for takes shape.
+    #[inline(always)]
     fn carry_out(&mut self, act: Act) -> Result<(), AllocError> {
         let mut answer = Line::BLANK;
         match act {
