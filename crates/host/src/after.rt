@@ -7,7 +7,7 @@ use device::store::LINE_BYTES;
 use events::event::Event;
 
 #[derive(Clone, Copy, Debug, PartialEq, Eq)]
-pub(crate) enum After {
+pub enum After {
     // The line that was asked for, where there is such a line.
     Line(Option<[u8; LINE_BYTES]>),
     Stored,

@@ -1,6 +1,7 @@
 // An engine's memory, the row that it is lent, and its device.
 ghost use Rattle.std.specs.Prelude.{◌≡◌, vec_len};
 
+pub use crate::after::After;
 use crate::end::End;
 use device::memory::Device;
 
