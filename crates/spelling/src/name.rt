@@ -10,7 +10,7 @@ use crate::limits::LONGEST_NAME;
 pub fn is_name_byte(b: u8) -> bool
     ensures { result ≡ name_byte b }
 {
-    matches!(b, b'a'..=b'z' | b'A'..=b'Z' | b'0'..=b'9' | b'_')
+    b.is_ascii_alphanumeric() || b == b'_'
 }
 
 fn has_name_bytes(text: &[u8]) -> bool
