@@ -11,7 +11,6 @@ use codes::*;
 use formulas::command::{Command, Refusal, read_command};
 use making::Maker;
 use positions::{At, Verdict, judge};
-use std::alloc::{AllocError, Global};
 use std::{fmt, io};
 
 const COMMANDS: u64 = 10000;
@@ -75,18 +74,18 @@ fn agrees(bytes: &[u8], verdict: Verdict) -> bool {
     }
 }
 
-fn run(heap: Global) -> Result<Tally, AllocError> {
-    let mut maker = Maker::new(heap, SEED);
+fn run() -> Tally {
+    let mut maker = Maker::new(SEED);
     let mut tally = Tally::default();
     for _ in 0..COMMANDS {
-        let code = maker.mutant()?;
-        let verdict = judge(heap, code)?;
+        let code = maker.mutant();
+        let verdict = judge(code);
         tally.add(verdict, agrees(code, verdict));
     }
-    Ok(tally)
+    tally
 }
 
 fn main(rt: HostRuntime) -> io::Result<()> {
-    let tally = run(rt.alloc())?;
+    let tally = run();
     println!(rt; "{COMMANDS} commands: {tally}")
 }

@@ -2,8 +2,8 @@
 // It has no recursion: a formula is cut into fronts from its first byte on, and its depth is found from the last front back.
 // Positions are added up with wrapping, since none comes near the largest number.
 use crate::codes::*;
+use arrayvec::ArrayVec;
 use spelling::place::{Area, Place};
-use std::alloc::{AllocError, Global};
 use std::iter::successors;
 
 // The whole length of a command with one place, two, a stretch of rows or columns, or a box and a place.
@@ -20,6 +20,9 @@ const FORMULA: usize = 10;
 const PLACE: usize = 9;
 
 const REFERENCE: usize = 11;
+
+// A byte for each front of a formula. Each front takes a byte at least, so that the longest formula finds room.
+type FrontBytes = ArrayVec<u8, LONGEST_FORMULA>;
 
 #[derive(Clone, Copy, Debug, PartialEq, Eq)]
 pub enum Verdict {
@@ -206,47 +209,49 @@ impl<'a> At<'a> {
 }
 
 // Takes so many depths off: the largest.
-fn deepest(depths: &mut Vec<u8>, many: u8) -> Option<u8> {
+fn deepest(depths: &mut FrontBytes, many: u8) -> Option<u8> {
     let at = depths.len().checked_sub(usize::from(many))?;
     Some(depths.drain(at..).max().unwrap_or(0))
 }
 
-// How deep the formula with these fronts is; none if they are not one formula.
-fn depth(heap: Global, fronts: &[Front]) -> Result<Option<u8>, AllocError> {
-    let mut depths = Vec::new(heap);
-    for front in fronts.iter().rev() {
-        let Some(most) = deepest(&mut depths, front.holds) else {
-            return Ok(None);
-        };
-        depths.push(most.saturating_add(1))?;
+// How deep the formula is whose fronts have so many formulas in them; none if they are not one formula.
+fn depth(held: &[u8]) -> Option<u8> {
+    let mut depths = FrontBytes::new();
+    for many in held.iter().rev() {
+        let most = deepest(&mut depths, *many)?;
+        let _full = depths.try_push(most.saturating_add(1));
     }
     match depths.as_slice() {
-        [depth] => Ok(Some(*depth)),
-        _ => Ok(None),
+        [depth] => Some(*depth),
+        _ => None,
     }
 }
 
 // A formula that goes to the end.
-fn formula(heap: Global, start: At) -> Result<Verdict, AllocError> {
-    // each front takes a byte at least, so that there are no more of them than bytes
-    let fronts: Vec<Front> = successors(start.front(), |front| front.end.front())
-        .take(start.bytes.len())
-        .collect(heap)?;
-    if !fronts.last().is_some_and(|front| front.end.is_end()) {
-        return Ok(Verdict::Malformed);
+fn formula(start: At) -> Verdict {
+    let mut held = FrontBytes::new();
+    let mut end = start;
+    let mut core = true;
+    for front in successors(start.front(), |front| front.end.front()).take(LONGEST_FORMULA) {
+        let _full = held.try_push(front.holds);
+        core &= front.core;
+        end = front.end;
     }
-    match depth(heap, fronts.as_slice())? {
-        Some(1..=DEEPEST) if fronts.iter().all(|front| front.core) => Ok(Verdict::Core),
-        Some(1..=DEEPEST) => Ok(Verdict::Other),
-        _ => Ok(Verdict::Malformed),
+    if !end.is_end() {
+        return Verdict::Malformed;
+    }
+    match depth(held.as_slice()) {
+        Some(1..=DEEPEST) if core => Verdict::Core,
+        Some(1..=DEEPEST) => Verdict::Other,
+        _ => Verdict::Malformed,
     }
 }
 
-fn set(heap: Global, start: At) -> Result<Verdict, AllocError> {
+fn set(start: At) -> Verdict {
     if start.after(1).place().is_none() || start.bytes.len() > FORMULA + LONGEST_FORMULA {
-        return Ok(Verdict::Malformed);
+        return Verdict::Malformed;
     }
-    formula(heap, start.after(FORMULA))
+    formula(start.after(FORMULA))
 }
 
 fn is_core(start: At) -> bool {
@@ -272,15 +277,15 @@ fn is_other(start: At) -> bool {
     }
 }
 
-pub fn judge(heap: Global, bytes: &[u8]) -> Result<Verdict, AllocError> {
+pub fn judge(bytes: &[u8]) -> Verdict {
     let start = At::start(bytes);
     if start.byte() == Some(SET) {
-        set(heap, start)
+        set(start)
     } else if is_core(start) {
-        Ok(Verdict::Core)
+        Verdict::Core
     } else if is_other(start) {
-        Ok(Verdict::Other)
+        Verdict::Other
     } else {
-        Ok(Verdict::Malformed)
+        Verdict::Malformed
     }
 }
