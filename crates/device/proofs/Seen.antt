@@ -13,7 +13,7 @@ use Rattle.plain.proofs.Stops.{length_set, at_other, seen_length, seen_store, se
 use Rattle.device.specs.declared.store.Store.{Store}
 use Rattle.device.specs.Stores.{store_of, stores_of}
 
-no_line : (ls : List Line) (k : ℕ) → length ls ≤ k → line_at ls k ≡ []
+pub no_line : (ls : List Line) (k : ℕ) → length ls ≤ k → line_at ls k ≡ []
 unfolding line_at
 no_line [] k h = refl
 no_line (q ∷ qs) zero h = absurd (omega arith)
@@ -48,7 +48,7 @@ unfolding so_many_of
 many_replicated zero x = refl
 many_replicated (suc n) x = ap (λ xs. x ∷ xs) (many_replicated n x)
 
-stores_more : (ws : List Store) (w : Store) → stores_of (ws ++ w ∷ []) ≡ stores_of ws ++ store_of w ∷ []
+pub stores_more : (ws : List Store) (w : Store) → stores_of (ws ++ w ∷ []) ≡ stores_of ws ++ store_of w ∷ []
 stores_more ws w = each_append store_of ws (w ∷ [])
 
 pub seen_more : (ls : List Line) (ws : List Store) (w : Store) → all_stored ls (stores_of (ws ++ w ∷ [])) ≡ set_line (all_stored ls (stores_of ws)) w.at w.line
@@ -91,7 +91,7 @@ seen_agree ls ms (w ∷ ws) k h e =
     seen_agree (set_line ls w.at w.line) (set_line ms w.at w.line) ws k
     (length_set ls w.at w.line ∙ h ∙ sym (length_set ms w.at w.line)) (set_agree ls ms w.at k w.line h e)
 
-settled_line : (ls : List Line) (k : ℕ) (ws : List plain.Store) → all_stored ls (of_line k ws) ≡ set_line ls k (line_at (all_stored ls ws) k)
+pub settled_line : (ls : List Line) (k : ℕ) (ws : List plain.Store) → all_stored ls (of_line k ws) ≡ set_line ls k (line_at (all_stored ls ws) k)
 unfolding all_stored of_line
 settled_line ls k [] = sym (set_same ls k)
 settled_line ls k (w ∷ ws) = go (eqb w.at k) refl (settled_line ls k ws) (settled_line (set_line ls w.at w.line) k ws)
