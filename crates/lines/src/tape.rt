@@ -24,6 +24,7 @@ impl<'a> Tape<'a> {
         Tape { words }
     }
 
+    #[tactic(auto, using(crate::proofs::Tapes::answer_here, crate::proofs::Tapes::no_answer))]
     fn answer(&mut self, act: Act) -> Result<Line, Act>
         ensures { FollowsAs line_of (ask (act_of act) ret) self.old result self.new }
     {

@@ -8,7 +8,7 @@ use std::fmt;
 
 #[derive(Clone, Copy, Debug, PartialEq, Eq, PartialOrd, Ord)]
 pub struct Millionths {
-    count: i64,
+    pub(crate) count: i64,
 }
 
 const LIMIT: i128 = 4611686018427387904;

@@ -7,6 +7,7 @@ use crate::millionths::Millionths;
 
 impl Millionths {
     // The number, if it is within the limit. A flag and a number: so it comes from the entry and from the bytes of a command, which are fixed.
+    #[tactic(auto, unfolding(plain::specs::Commands::small_num))]
     pub fn from_sign(below_zero: bool, millionths: u64) -> Option<Millionths>
         ensures { IsFromSign below_zero millionths result }
     {

@@ -1,4 +1,5 @@
-use Rattle.std.proofs.Common.{◌∙◌, ap}
+use Rattle.std.proofs.Common.{◌∙◌, ap, arith}
+use Rattle.std.proofs.lemmas.Int.{ints}
 use Rattle.plain.specs.Term.{within}
 use Rattle.numbers.proofs.Signs.{small_so, below_so, above_so}
 use Rattle.numbers.proofs.millionths.Millionths.from_sign.Goals as goal
@@ -7,6 +8,6 @@ use Rattle.numbers.proofs.millionths.Millionths.from_sign.Goals.{then-below_zero
 pub returns : goal.returns
 returns c =
     rw c.ok.ensures.value (small_so c.within.result _ (c.within.ensures ∙ ap within (elim c.if-below_zero.branch [
-      | then-below_zero w ↦ rw (w.if-below_zero.true, w.count-is, c.from-count.ensures) (below_so _ c.ranges.millionths.fits)
-      | else-below_zero w ↦ rw (w.if-below_zero.false, w.count-is, c.from-count.ensures) (above_so _ c.ranges.millionths.fits)
+      | then-below_zero w ↦ rw w.if-below_zero.true (below_so _ _ (omega (arith, ints)))
+      | else-below_zero w ↦ rw w.if-below_zero.false (above_so _ _ (omega (arith, ints)))
     ])))
