@@ -10,11 +10,11 @@ use Rattle.lines.specs.Told.{act_of, told_as}
 use Rattle.std.proofs.lemmas.List.{length-drop}
 use Rattle.lines.specs.Words.{answers, lines_in, bytes_of}
 
-answers_none : (ws : List ℕ) → length ws < 8 → answers ws 0 ≡ []
+pub answers_none : (ws : List ℕ) → length ws < 8 → answers ws 0 ≡ []
 unfolding answers lines_in
 answers_none ws h = let z : length ws / 8 - 0 ≡ 0 = omega arith in rw z
 
-answers_more : (ws : List ℕ) → 8 ≤ length ws → answers ws 0 ≡ bytes_of (take 8 ws) ∷ answers (drop 8 ws) 0
+pub answers_more : (ws : List ℕ) → 8 ≤ length ws → answers ws 0 ≡ bytes_of (take 8 ws) ∷ answers (drop 8 ws) 0
 unfolding answers lines_in
 answers_more ws h =
     let l = length-drop 8 ws in

@@ -108,7 +108,7 @@ unfolding words_in word_at blank so_many_of number_after
 blank_words = refl
 
 -- what is taken for a line has the bytes of its words
-tidy_back : (l : List ℕ) → bytes_of (words_in (tidy l)) ≡ tidy l
+pub tidy_back : (l : List ℕ) → bytes_of (words_in (tidy l)) ≡ tidy l
 tidy_back l = let a = and_parts (eqb (length (tidy l)) 64) (all_bytes (tidy l)) (tidy_line l) in bytes_back (tidy l) (eqb-true (length (tidy l)) 64 a.0) a.1
 
 -- the words decide the bytes

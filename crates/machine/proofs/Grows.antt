@@ -26,7 +26,7 @@ use Rattle.machine.proofs.Kept.{put_long, saved_long, pushed_long, heard_long}
 abbrev Fit : ℕ → Type 0
 Fit x = x < 18446744073709551616
 
-abbrev Words : List ℕ → Type 0
+abbrev pub Words : List ℕ → Type 0
 Words m = All Fit m
 
 words_from : (m : List ℕ) → all_small m ≡ true → Words m
