@@ -29,10 +29,13 @@ impl From<NoSuchKind> for Unprintable {
     }
 }
 
-// What is printed of a formula so far, and what is still to be read of it.
+// What is printed of a formula so far, and what is still to be read of it. Want of memory is noted where it comes, and told when the text is asked
+// for: so that bytes are no formula is told whatever memory there is.
 #[derive(Debug, Drop)]
 struct Printer<'a> {
     text: String,
+    // Whether something was not printed, for want of memory.
+    lost: bool,
     rest: &'a [u8],
 }
 
@@ -59,13 +62,14 @@ impl<'a> Printer<'a> {
         requires { F.pre read self.old.rest }
     {
         let part = Typed(self.take(read)?);
-        write!(self.text, "{part}")?;
+        self.put(part);
         Ok(())
     }
 
-    fn put(&mut self, piece: &str) -> Result<(), Unprintable> {
-        self.text.push_str(piece)?;
-        Ok(())
+    fn put<T: fmt::Display + Drop>(&mut self, piece: T) {
+        if write!(self.text, "{piece}").is_err() {
+            self.lost = true;
+        }
     }
 
     // Prints the formula at the front, at most so deep.
@@ -79,11 +83,14 @@ impl<'a> Printer<'a> {
             FormulaKind::Cell => self.part(Reference::read),
             FormulaKind::Area => {
                 self.part(Reference::read)?;
-                self.put(":")?;
+                self.put(":");
                 self.part(Reference::read)
             }
             FormulaKind::Named => self.part(name),
-            FormulaKind::Gone => self.put("gone"),
+            FormulaKind::Gone => {
+                self.put("gone");
+                Ok(())
+            }
             FormulaKind::Opposite => self.opposite(depth - 1),
             FormulaKind::Operator => self.operator(depth - 1),
             FormulaKind::Function => self.function(depth - 1),
@@ -93,7 +100,7 @@ impl<'a> Printer<'a> {
     // Always in brackets, since a minus before digits belongs to the number.
     #[cycle(formulas)]
     fn opposite(&mut self, depth: u8) -> Result<(), Unprintable> {
-        self.put("-")?;
+        self.put("-");
         self.bracketed(depth)
     }
 
@@ -101,7 +108,9 @@ impl<'a> Printer<'a> {
     fn operator(&mut self, depth: u8) -> Result<(), Unprintable> {
         let operator = Operator::try_from(self.take(one)?)?;
         self.operand(depth)?;
-        write!(self.text, " {operator} ")?;
+        self.put(" ");
+        self.put(operator);
+        self.put(" ");
         self.operand(depth)
     }
 
@@ -117,23 +126,34 @@ impl<'a> Printer<'a> {
 
     #[cycle(formulas)]
     fn bracketed(&mut self, depth: u8) -> Result<(), Unprintable> {
-        self.put("(")?;
+        self.put("(");
         self.formula(depth)?;
-        self.put(")")
+        self.put(")");
+        Ok(())
     }
 
     #[cycle(formulas)]
     fn function(&mut self, depth: u8) -> Result<(), Unprintable> {
         let function = Function::try_from(self.take(one)?)?;
         let n = self.take(one)?;
-        write!(self.text, "{function}(")?;
+        self.put(function);
+        self.put("(");
         for i in 0..n {
             if i > 0 {
-                self.put(", ")?;
+                self.put(", ");
             }
             self.formula(depth)?;
         }
-        self.put(")")
+        self.put(")");
+        Ok(())
+    }
+
+    fn into_text(self) -> Result<String, AllocError> {
+        if self.lost {
+            Err(AllocError)
+        } else {
+            Ok(self.text)
+        }
     }
 }
 
@@ -141,11 +161,12 @@ impl<'a> Printer<'a> {
 pub fn formula(heap: Global, bytes: &[u8]) -> Result<String, Unprintable> {
     let mut printer = Printer {
         text: String::new(heap),
+        lost: false,
         rest: bytes,
     };
     printer.formula(DEEPEST_FORMULA)?;
     if printer.rest.is_empty() {
-        Ok(printer.text)
+        Ok(printer.into_text()?)
     } else {
         Err(Unprintable::Malformed)
     }

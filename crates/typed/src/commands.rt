@@ -34,21 +34,21 @@ impl<'a> Reader<'a> {
         let axis: Axis = named(word.bytes).ok_or(Expected::RowsOrColumns.at(word.column))?;
         let at = line(axis, self.cursor.word())?;
         let many = how_many(axis, self.cursor.word())?;
-        self.code.put(axis as u8)?;
-        self.code.put_eight(at)?;
-        self.code.put_eight(many)?;
+        self.code.put(axis as u8);
+        self.code.put_eight(at);
+        self.code.put_eight(many);
         Ok(())
     }
 
     fn read_place(&mut self) -> Result<(), Unreadable> {
-        self.code.put_place(place(self.cursor.word())?)?;
+        self.code.put_place(place(self.cursor.word())?);
         Ok(())
     }
 
     fn read_area(&mut self) -> Result<(), Unreadable> {
         let found = area(&mut self.cursor)?;
-        self.code.put_place(found.first)?;
-        self.code.put_place(found.last)?;
+        self.code.put_place(found.first);
+        self.code.put_place(found.last);
         Ok(())
     }
 
@@ -75,7 +75,7 @@ impl<'a> Reader<'a> {
 
     // Reads a command from behind its first word up to the end of the line, and gives back the column at which the last part of it began.
     pub fn read_command(&mut self, kind: CommandKind) -> Result<usize, Unreadable> {
-        self.code.put(kind as u8)?;
+        self.code.put(kind as u8);
         self.read_first(kind)?;
         self.cursor.skip_blanks();
         let last = self.cursor.column;

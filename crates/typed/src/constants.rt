@@ -6,8 +6,21 @@ use crate::places::DECIMALS;
 use crate::reader::Reader;
 use crate::scan::Cursor;
 use numbers::millionths::Millionths;
-use spelling::kinds::ConstantKind;
+use spelling::kinds::{ConstantKind, FormulaKind};
 use spelling::limits::LONGEST_TEXT;
+
+// What a text begins with, up to the last byte of its length.
+const TEXT_FRONT: [u8; 9] = [
+    FormulaKind::Constant as u8,
+    ConstantKind::Text as u8,
+    0,
+    0,
+    0,
+    0,
+    0,
+    0,
+    0,
+];
 
 // So many whole ones and these decimals, in millionths, if it is not too large to count.
 fn millionths(whole: &[u8], decimals: &[u8]) -> Option<u64> {
@@ -68,7 +81,7 @@ impl<'a> Reader<'a> {
         let n = millionths(whole, self.cursor.decimals()?).ok_or(refused)?;
         let below_zero = minus && n > 0;
         let number = Millionths::from_sign(below_zero, n - u64::from(below_zero)).ok_or(refused)?;
-        self.code.put_number(number)?;
+        self.code.put_number(number);
         Ok(())
     }
 
@@ -78,15 +91,14 @@ impl<'a> Reader<'a> {
     {
         let _quote = self.cursor.byte();
         let refused = Expected::ShorterText.at(self.cursor.column);
-        self.code.put_constant(ConstantKind::Text)?;
-        self.code.put_all(&[0; 7])?;
+        self.code.put_all(&TEXT_FRONT);
         let start = self.code.len();
         for length in 0..=LONGEST_TEXT as u8 {
             let Some(b) = self.cursor.text_byte()? else {
-                self.code.put_before(start, length)?;
+                self.code.put_before(start, length);
                 return Ok(());
             };
-            self.code.put(b)?;
+            self.code.put(b);
         }
         Err(refused)
     }

@@ -1,6 +1,6 @@
 // What is wrong with a line: what was expected, and at which column.
 ghost use Rattle.std.specs.Prelude.{◌≡◌};
-ghost use Rattle.typed.specs.declared.fault.Unreadable.TheVariants.{Memory};
+ghost use Rattle.typed.specs.declared.fault.Unreadable.TheVariants.{Lacks, Memory};
 
 use std::alloc::AllocError;
 use std::fmt;
@@ -60,7 +60,9 @@ impl fmt::Display for Expected {
 
 impl Expected {
     // Why a line is refused where something else stands in its place.
-    pub fn at(self, column: usize) -> Unreadable {
+    pub fn at(self, column: usize) -> Unreadable
+        ensures { result ≡ Lacks self column }
+    {
         Unreadable::Lacks(self, column)
     }
 }

@@ -23,7 +23,7 @@ impl<'a> Reader<'a> {
         if !is_name(word.bytes) {
             return Err(Expected::Name.at(word.column));
         }
-        self.code.put_counted(word.bytes)?;
+        self.code.put_counted(word.bytes);
         Ok(())
     }
 
@@ -49,7 +49,7 @@ impl<'a> Reader<'a> {
     fn put_named(&mut self, word: Word) -> Result<(), Unreadable>
         ensures { Grows self.old.code self.new.code }
     {
-        self.code.put(FormulaKind::Named as u8)?;
+        self.code.put(FormulaKind::Named as u8);
         self.put_name(word)
     }
 
@@ -60,12 +60,12 @@ impl<'a> Reader<'a> {
         let first = reference(word)?;
         if self.cursor.passes(b':') {
             let last = reference(self.cursor.word())?;
-            self.code.put(FormulaKind::Area as u8)?;
-            self.code.put_reference(first)?;
-            self.code.put_reference(last)?;
+            self.code.put(FormulaKind::Area as u8);
+            self.code.put_reference(first);
+            self.code.put_reference(last);
         } else {
-            self.code.put(FormulaKind::Cell as u8)?;
-            self.code.put_reference(first)?;
+            self.code.put(FormulaKind::Cell as u8);
+            self.code.put_reference(first);
         }
         Ok(())
     }
@@ -88,12 +88,12 @@ impl<'a> Reader<'a> {
         }
         match named(word.bytes) {
             Some(Keyword::Truth(truth)) => {
-                self.code.put_constant(ConstantKind::Truth)?;
-                self.code.put(u8::from(truth))?;
+                self.code.put_constant(ConstantKind::Truth);
+                self.code.put(u8::from(truth));
                 Ok(())
             }
             Some(Keyword::Gone) => {
-                self.code.put(FormulaKind::Gone as u8)?;
+                self.code.put(FormulaKind::Gone as u8);
                 Ok(())
             }
             None => self.put_named(word),

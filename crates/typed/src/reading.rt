@@ -61,7 +61,7 @@ fn command(heap: Global, cursor: Cursor, word: Word) -> Result<Line, Unreadable>
     let kind: CommandKind = named(word.bytes).ok_or(Expected::Command.at(word.column))?;
     let mut reader = Reader::new(heap, cursor);
     let last = reader.read_command(kind)?;
-    let bytes = reader.code.into_bytes();
+    let bytes = reader.code.into_bytes()?;
     let refused = instead(kind).at(last);
     let answer = answer_to(read_command(bytes.as_slice())).ok_or(refused)?;
     Ok(Line::Command { bytes, answer })

@@ -47,8 +47,8 @@ impl<'a> Reader<'a> {
                 return Ok(());
             };
             // What is spelled from the start on becomes the first operand.
-            self.code.put_before(start, found as u8)?;
-            self.code.put_before(start, FormulaKind::Operator as u8)?;
+            self.code.put_before(start, found as u8);
+            self.code.put_before(start, FormulaKind::Operator as u8);
             self.formula(level(found) + 1, depth - 1)?;
         }
         Err(Expected::ShallowerFormula.at(self.cursor.column))
@@ -75,7 +75,7 @@ impl<'a> Reader<'a> {
         ensures { Grows self.old.code self.new.code }
     {
         let _minus = self.cursor.byte();
-        self.code.put(FormulaKind::Opposite as u8)?;
+        self.code.put(FormulaKind::Opposite as u8);
         self.formula(TIGHTEST, depth)
     }
 
@@ -99,8 +99,8 @@ impl<'a> Reader<'a> {
         let word = self.cursor.word();
         match named::<Function>(word.bytes) {
             Some(found) if self.cursor.passes(b'(') => {
-                self.code
-                    .put_all(&[FormulaKind::Function as u8, found as u8])?;
+                self.code.put(FormulaKind::Function as u8);
+                self.code.put(found as u8);
                 self.call(depth)
             }
             _ => self.read_word(word),
@@ -114,13 +114,13 @@ impl<'a> Reader<'a> {
     {
         let start = self.code.len();
         if self.cursor.passes(b')') {
-            self.code.put(0)?;
+            self.code.put(0);
             return Ok(());
         }
         for n in 1..=MOST_VALUES {
             self.formula(0, depth)?;
             if self.cursor.takes(b')') {
-                self.code.put_before(start, n)?;
+                self.code.put_before(start, n);
                 return Ok(());
             }
             if !self.cursor.takes(b',') {
