@@ -1,11 +1,11 @@
 -- A number read byte by byte, the highest first: it fits, and how far the loop has come.
-use Rattle.std.proofs.Common.{◌≡◌, ℕ, ◌+◌, ◌*◌, ◌/◌, ◌%◌, ◌^◌, ◌<◌, ◌≤◌, List, [], ◌∷◌, length, get_or, drop, take, min, Fits, w8, ap, arith, pow-add}
+use Rattle.std.proofs.Common.{◌≡◌, ℕ, ◌+◌, ◌*◌, ◌/◌, ◌%◌, ◌^◌, ◌<◌, ◌≤◌, List, [], ◌∷◌, length, get_or, drop, take, Fits, w8, ap, arith, pow-add}
 use Rattle.std.proofs.Math.Nat.{pow-le-pow_right}
 use Rattle.std.proofs.lemmas.List.{drop_more, drop_all, get_or-take, length-take}
 use Rattle.plain.specs.Run.{on}
 use Rattle.events.specs.Entry.{from_eight, event_of}
 
-pub pow_few : (bs : List ℕ) (k i n : ℕ) → k ≡ min 8 (length bs) → i < length (take k bs) → n < 256 ^ i → n < 72057594037927936
+pub pow_few : (bs : List ℕ) (k i n : ℕ) → k ≤ 8 → i < length (take k bs) → n < 256 ^ i → n < 72057594037927936
 pow_few bs k i n e h l =
     let long = length-take k bs in
     let p = pow-le-pow_right {n = 256} (omega arith) {i = i} {j = 7} (omega arith) in omega arith

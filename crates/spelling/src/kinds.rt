@@ -382,6 +382,7 @@ impl fmt::Display for Operator {
     ghost output = { λ operator. Some (operator_mark operator) };
 
     fn fmt<W: fmt::Write>(&self, f: &mut fmt::Formatter<W>) -> fmt::Result {
-        f.write_str(self.word())
+        let mark = self.word();
+        f.write_str(mark)
     }
 }
