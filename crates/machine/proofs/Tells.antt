@@ -1,9 +1,9 @@
 -- What a step of the engine comes to, way by way: the facts that the proofs of the step's parts cite.
 use Rattle.std.proofs.Common.{◌≡◌, ℕ, List, [], ◌∷◌, length, refl, sym, ap, ◌∙◌, ap₂}
 use Rattle.std.proofs.lemmas.Bool.{eq-eqb}
-use Rattle.plain.specs.Run.{Act, Event, Step, next}
-use Rattle.programs.specs.Machine.{doing}
+use Rattle.plain.specs.Run.{done, refused, Event, Step, next}
 use Rattle.events.specs.declared.told.Told.{Told}
+use Rattle.events.specs.declared.told.Told.TheVariants.{Done, No}
 use Rattle.events.specs.Entry.{ActTold, StepTold}
 use Rattle.lines.proofs.Words.{blank_words}
 use Rattle.programs.specs.Prog.{Out}
@@ -13,6 +13,18 @@ use Rattle.machine.specs.Memory.{pushed}
 use Rattle.machine.specs.Model.{Model}
 use Rattle.machine.specs.Engine.{run_in, applied, opening, begun, ended, moved, turn, answered, told, engine_of}
 use Rattle.plain.proofs.Many.{length_many}
+
+-- what is told of the same step
+pub as_told : (z y : Step) (r : Told) (m out out₁ : List ℕ) → z ≡ y → StepTold y r m out out₁ → StepTold z r m out out₁
+as_told z y r m out out₁ e s = rw e s
+
+pub no_told : (k : ℕ) (out : List ℕ) → ActTold (refused k) (No k) out out
+unfolding ActTold
+no_told k out = (refl, refl)
+
+pub done_told : (out : List ℕ) → ActTold done Done out out
+unfolding ActTold
+done_told out = (refl, refl)
 
 module _ {D : Type 0} (M : Model D) where
   pub length_start : length (engine_of M).start ≡ 262144
@@ -43,6 +55,6 @@ module _ {D : Type 0} (M : Model D) where
   unfolding engine_of
   step_is m e h = rw (eq-eqb (length m) 262144 h)
 
-  pub told_step : (m n m₁ : List ℕ) (e : Event) (x : Act) (r : Told) (out out₁ : List ℕ) → length m ≡ 262144 → n ≡ m → told M n e ≡ doing m₁ x → ActTold x r out out₁
+  pub told_step : (m n m₁ : List ℕ) (e : Event) (r : Told) (out out₁ : List ℕ) → length m ≡ 262144 → n ≡ m → StepTold (told M n e) r m₁ out out₁
       → StepTold ((engine_of M).step m e) r m₁ out out₁
-  told_step m n m₁ e x r out out₁ h q s a = rw (step_is m e h, ← q, s) (refl, a)
+  told_step m n m₁ e r out out₁ h q s = rw (step_is m e h, ← q) s

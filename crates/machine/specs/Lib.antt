@@ -1,5 +1,4 @@
 pub mod Memory
 pub mod Model
 pub mod Engine
-pub mod Outcome
 pub mod View

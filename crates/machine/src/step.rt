@@ -1,69 +1,71 @@
 // One step of an engine: it is told one event and does one act.
-ghost use Rattle.std.specs.Prelude.{◌≡◌};
-ghost use Rattle.programs.specs.Machine.{doing};
-ghost use Rattle.events.specs.Entry.{StepOf, fits_of};
+ghost use Rattle.std.specs.Prelude.{◌≤◌, length};
+ghost use Rattle.events.specs.Entry.{StepOf, StepTold, fits_of};
 ghost use Rattle.events.specs.Events.{heard};
 ghost use Rattle.machine.specs.Engine.{answered, begun, engine_of, moved, told};
 ghost use Rattle.machine.specs.Memory.{pushed};
-ghost use Rattle.machine.specs.Outcome.{act_in};
 
 use crate::end::End;
 use crate::memory::{Memory, apply, directory, hear, push, registers, run, save};
 use crate::stages::{Move, Stages};
-use crate::told::Outcome;
+use crate::told::tell_act;
 use events::event::Event;
 use events::sizes::fits;
 use events::told::Told;
 use lines::line::Line;
 
 // A stage begins with its first act. One that has none is a fault.
-fn begin<S: Stages>(memory: &Memory) -> Outcome
-    ensures { begun S.Stages.model memory.now ≡ doing memory.now (act_in result) }
+fn begin<S: Stages>(memory: &Memory, out: &mut [u8]) -> Told
+    requires { 1040 ≤ length out.old }
+    ensures { StepTold (begun S.Stages.model memory.now) result memory.now out.old out.new }
 {
     match run::<S>(memory) {
-        Err(act) => Outcome::Act(act),
-        Ok(_) => Outcome::Fault,
+        Err(act) => tell_act(act, out),
+        Ok(_) => Told::No(0),
     }
 }
 
 // A stage has come out.
-fn turn<S: Stages>(memory: &mut Memory, made: Move<S::Deed>) -> Outcome
-    ensures { moved S.Stages.model memory.old made ≡ doing memory.new (act_in result) }
+fn turn<S: Stages>(memory: &mut Memory, made: Move<S::Deed>, out: &mut [u8]) -> Told
+    requires { 1040 ≤ length out.old }
+    ensures { StepTold (moved S.Stages.model memory.old made) result memory.new out.old out.new }
 {
     apply::<S>(memory, made);
     match made.end {
-        End::Go => begin::<S>(memory),
-        End::Done => Outcome::Done,
-        End::Refused(refusal) => Outcome::Refused(refusal),
+        End::Go => begin::<S>(memory, out),
+        End::Done => Told::Done,
+        End::Refused(refusal) => Told::No(refusal.number),
     }
 }
 
 // The stage goes on, with one answer more.
-fn answer<S: Stages>(memory: &mut Memory, line: &Line) -> Outcome
-    ensures { answered S.Stages.model (pushed memory.old line.now.words) ≡ doing memory.new (act_in result) }
+fn answer<S: Stages>(memory: &mut Memory, line: &Line, out: &mut [u8]) -> Told
+    requires { 1040 ≤ length out.old }
+    ensures { StepTold (answered S.Stages.model (pushed memory.old line.now.words)) result memory.new out.old out.new }
 {
     push(memory, line);
     match run::<S>(memory) {
-        Err(act) => Outcome::Act(act),
-        Ok(made) => turn::<S>(memory, made),
+        Err(act) => tell_act(act, out),
+        Ok(made) => turn::<S>(memory, made, out),
     }
 }
 
-fn tell<S: Stages>(memory: &mut Memory, event: Event) -> Outcome
-    ensures { told S.Stages.model memory.old (heard event.entry) ≡ doing memory.new (act_in result) }
+fn tell<S: Stages>(memory: &mut Memory, event: Event, out: &mut [u8]) -> Told
+    requires { 1040 ≤ length out.old }
+    ensures { StepTold (told S.Stages.model memory.old (heard event.entry)) result memory.new out.old out.new }
 {
     match event {
         Event::On(lines) => {
             save(memory, &S::boot(lines));
-            begin::<S>(memory)
+            begin::<S>(memory, out)
         }
         Event::Said(text) => {
             let made = S::hear(registers(memory), directory(memory), text);
             hear(memory, text);
-            turn::<S>(memory, made)
+            turn::<S>(memory, made, out)
         }
-        Event::Line(line) => answer::<S>(memory, &Line::from(line)),
-        Event::Next => answer::<S>(memory, &Line::BLANK),
+        Event::Line(line) => answer::<S>(memory, &Line::from(line), out),
+        Event::Next => answer::<S>(memory, &Line::BLANK, out),
     }
 }
 
@@ -76,6 +78,9 @@ pub fn step<S: Stages>(memory: &mut [u64], kind: u64, bytes: &[u8], out: &mut [u
     if !fits(memory, kind, out) {
         return Told::No(0);
     }
-    let outcome = tell::<S>(memory.as_mut_array().unwrap(), Event::told(kind, bytes));
-    outcome.tell(out)
+    tell::<S>(
+        memory.as_mut_array().unwrap(),
+        Event::told(kind, bytes),
+        out,
+    )
 }

@@ -12,4 +12,4 @@ returns g c =
     let M = g.S.Stages.model in
     let same : c.unwrap.result.now ≡ c.args.memory.now = search rules in
     fit (engine_of M) (length_start M) _ _ _ _ _ _ _ _ c.if-not-fits.ensures c.told.ensures
-    (told_step M _ _ _ _ _ _ _ _ (c.if-not-fits.ensures.0 refl).0 same c.tell-outcome.ensures c.tell.ensures)
+    (told_step M _ _ _ _ _ _ _ (c.if-not-fits.ensures.0 refl).0 same c.tell.ensures)
