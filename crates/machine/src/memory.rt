@@ -3,13 +3,14 @@
 ghost use Rattle.std.specs.Prelude.{◌≡◌, List, ◌+◌, ◌≤◌, length};
 ghost use Rattle.plain.specs.Device.{Line as PlainLine};
 ghost use Rattle.lines.specs.Told.{told};
+ghost use Rattle.lines.specs.Words.{words_of};
 ghost use Rattle.machine.specs.Engine.{applied, deed_done, run_in};
 ghost use Rattle.machine.specs.Memory.{command_in, directory_in, fixed, heard as heard_in, part, pushed, registers_in, saved};
 
 use crate::stages::{COMMAND_WORDS, DIRECTORY_WORDS, Move, REGISTER_WORDS, Stages, View};
 use events::sizes::MEMORY_WORDS;
 use lines::act::Act;
-use lines::line::{Line, words_from};
+use lines::line::Line;
 use lines::tape::Tape;
 
 // One list of words, with the tape's length in it beside the tape: the fixed interface lends memory so, and compares it word by word.
@@ -112,6 +113,17 @@ fn change_directory<S: Stages>(directory: &mut [u64], deed: S::Deed)
     S::apply(deed, directory.as_mut_array().unwrap());
 }
 
+// The words that these bytes make, eight to each, the highest first, are written where they are to lie: an array that is handed out would be copied.
+fn pack(bytes: &[u8; COMMAND_BYTES], words: &mut [u64])
+    requires { length words.old ≡ 136 }
+    ensures { words.new ≡ words_of 136 bytes.now }
+{
+    let (chunks, _) = bytes.as_chunks();
+    for (i, eight) in chunks.iter().enumerate() {
+        words[i] = u64::from_be_bytes(*eight);
+    }
+}
+
 // The command's words: its bytes, as many as there is room for, filled up with 0.
 pub fn hear(memory: &mut Memory, text: &[u8])
     ensures { memory.new ≡ heard_in memory.old text.now }
@@ -119,5 +131,5 @@ pub fn hear(memory: &mut Memory, text: &[u8])
     let few = text.len().min(COMMAND_BYTES);
     let mut bytes = [0; COMMAND_BYTES];
     bytes[..few].copy_from_slice(&text[..few]);
-    memory[COMMAND..DIRECTORY].copy_from_slice(&words_from::<COMMAND_WORDS>(&bytes));
+    pack(&bytes, &mut memory[COMMAND..DIRECTORY]);
 }
