@@ -193,9 +193,20 @@ unfolding within small_num
 small_so r (plus n) e = limited _ r (plus n) e
 small_so r (minus n) e = limited _ r (minus n) e
 
--- a number as it is spelled, from the integer that the code has
-pub below_so : (k : ℤ) (n : ℕ) → k ≡ negsuc n → signed k ≡ spelled true n
-below_so k n e = ap signed e
+-- a number as it is spelled, from the integer that the code comes to
+pub below_from : (k : ℤ) (n : ℕ) → k ≡ negsuc n → signed k ≡ spelled true n
+below_from k n e = ap signed e
 
-pub above_so : (k : ℤ) (n : ℕ) → k ≡ pos n → signed k ≡ spelled false n
-above_so k n e = ap signed e
+pub above_from : (k : ℤ) (n : ℕ) → k ≡ pos n → signed k ≡ spelled false n
+above_from k n e = ap signed e
+
+-- a number as it is spelled, as the code has it
+pub below_so : (n : ℕ) → n < 2 ^ 64 → signed (cut (negsuc 0 +ℤ neg_ℤ (cut (pos n)))) ≡ spelled true n
+below_so n h =
+    let p : SFits w128 (pos n) = record { sfits = omega arith } in
+    let e : negsuc 0 +ℤ neg_ℤ (pos n) ≡ negsuc n = grind (arith, nat_tests) in
+    let s : SFits w128 (negsuc n) = record { sfits = omega arith } in
+    rw (to_z-of_z w128 (pos n) p, e) (below_from _ n (to_z-of_z w128 (negsuc n) s))
+
+pub above_so : (n : ℕ) → n < 2 ^ 64 → signed (cut (pos n)) ≡ spelled false n
+above_so n h = let s : SFits w128 (pos n) = record { sfits = omega arith } in above_from _ n (to_z-of_z w128 (pos n) s)
